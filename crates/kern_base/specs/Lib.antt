@@ -1,0 +1,5 @@
+pub mod Tables
+pub mod KindsView
+pub mod Services
+pub mod Errors
+pub mod Checks
