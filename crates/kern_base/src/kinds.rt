@@ -8,9 +8,10 @@ use arrayvec::ArrayVec;
 use std::marker::Model;
 
 /// The kind of a kernel object.
-#[derive(Clone, Copy, Debug, PartialEq, Eq)]
+#[derive(Clone, Copy, Debug, Default, PartialEq, Eq)]
 pub enum Kind {
     /// A counting semaphore.
+    #[default]
     Sem,
     /// A message queue.
     Queue,

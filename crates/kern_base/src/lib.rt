@@ -17,3 +17,6 @@ pub use numbers::{NoMemory, ObjId, Prio, TaskId};
 pub use outcomes::{Answer, Around, Decision, Finished, Outcome, UnitEnd, Waiting, Who};
 pub use requests::{Post, Request};
 pub use services::Service;
+
+#[cfg(test)]
+mod tests;
