@@ -1,0 +1,80 @@
+-- A piece lies inside the text that it is the front of.
+use Rattle.std.proofs.Common.{◌≡◌, ℕ, ◌+◌, ◌-◌, ◌≤◌, ◌<◌, ◌∷◌, List, [], length, drop, take, Bool, true, false, arith, subst, sym, ap, ℤ, pos, refl, suc, add-one}
+use Rattle.std.specs.Prelude.{if◌then◌else◌, nat_lt, neg_ℤ}
+use Rattle.std.specs.List.{prefix_len, take_while}
+use Rattle.std.proofs.lemmas.List.{length-drop}
+use Rattle.std.proofs.lemmas.List.Folds.{length-prefix_len}
+use Rattle.std.proofs.lemmas.List.Sums.{prefix_len-le-length}
+use Rattle.text_lex.specs.Bytes.{class_of, is_name_byte, is_letter, is_digit, is_hex_digit, is_not_line_feed}
+use Rattle.text_lex.specs.Numbers.{Numeral, numeral, begins_hex, hex_numeral, decimal_numeral}
+use Rattle.text_lex.specs.Pieces.{PieceFits, closed, positive, negative, after_minus, after_dot, piece_of, piece_at}
+use Rattle.text_lex.specs.declared.TokenKind.TheVariants.{Name, Directive, Number}
+use Rattle.text_lex.specs.declared.bytes.ByteClass.{ByteClass}
+use Rattle.text_lex.specs.declared.bytes.ByteClass.TheVariants.{Blank, Hash, LineFeed, Letter, Dot, Minus, Digit, Sign, Other}
+use Rattle.text_lex.specs.declared.pieces.Piece.{Piece}
+use Rattle.text_lex.specs.declared.pieces.Piece.TheVariants.{Skips, Ends, Gives, Bad, TooLarge}
+
+-- of a choice, what holds of both sides
+pub choice : {A : Type 0} (P : A → Type 0) (b : Bool) (x y : A) → P x → P y → P (if b then x else y)
+choice P true x y p q = p
+choice P false x y p q = q
+
+-- a hexadecimal number ends within the text
+hex_within : (byte : ℕ) (rest : List ℕ) → (begins_hex byte rest ≡ true) → 1 + length (take_while is_hex_digit (drop 1 rest)) ≤ length rest
+hex_within byte [] h = cc
+hex_within byte (next ∷ []) h = cc
+hex_within byte (next ∷ (digit ∷ rest)) h =
+    omega (arith, prefix_len-le-length is_hex_digit (digit ∷ rest), length-prefix_len is_hex_digit (digit ∷ rest))
+
+decimal_within : (rest : List ℕ) → length (take_while is_digit rest) ≤ length rest
+decimal_within rest = omega (arith, prefix_len-le-length is_digit rest, length-prefix_len is_digit rest)
+
+either : (b : Bool) (rest : List ℕ) (x y : Numeral) → (b ≡ true → x.further ≤ length rest) → y.further ≤ length rest → (if b then x else y).further ≤ length rest
+either true rest x y p q = p refl
+either false rest x y p q = q
+
+-- a number without a sign ends within the text
+pub numeral_within : (byte : ℕ) (rest : List ℕ) → (numeral byte rest).further ≤ length rest
+numeral_within byte rest = either (begins_hex byte rest) rest _ _ (hex_within byte rest) (decimal_within rest)
+
+closed_within : (value : ℤ) (further room : ℕ) (behind : List ℕ) → further + length behind ≤ room → PieceFits (closed value further behind) room
+closed_within value further room [] h = omega arith
+closed_within value further room (byte ∷ bytes) h =
+    choice (λ p. PieceFits p room) (is_name_byte byte) _ _ (omega arith) (omega arith)
+
+positive_within : (n : Numeral) (rest : List ℕ) → n.further ≤ length rest → PieceFits (positive n rest) (length rest)
+positive_within n rest h =
+    choice (λ p. PieceFits p (length rest)) (nat_lt 4294967295 n.value) _ _ tt
+    (closed_within _ _ (length rest) _ (omega (arith, length-drop n.further rest)))
+
+negative_within : (n : Numeral) (rest : List ℕ) → n.further ≤ length rest → PieceFits (negative n rest) (1 + length rest)
+negative_within n rest h =
+    choice (λ p. PieceFits p (1 + length rest)) (nat_lt 2147483648 n.value) _ _ tt
+    (closed_within _ _ (1 + length rest) _ (omega (arith, length-drop n.further rest)))
+
+minus_within : (rest : List ℕ) → PieceFits (after_minus rest) (length rest)
+minus_within [] = omega arith
+minus_within (byte ∷ rest) =
+    choice (λ p. PieceFits p (suc (length rest))) (is_digit byte) _ _
+    (rw add-one at (negative_within _ rest (numeral_within byte rest))) (omega arith)
+
+dot_within : (rest : List ℕ) → PieceFits (after_dot rest) (length rest)
+dot_within [] = omega arith
+dot_within (byte ∷ rest) =
+    choice (λ p. PieceFits p (suc (length rest))) (is_letter byte) _ _
+    (omega (arith, prefix_len-le-length is_name_byte rest)) (omega arith)
+
+class_within : (class : ByteClass) (byte : ℕ) (rest : List ℕ) → PieceFits (piece_of class byte rest) (length rest)
+class_within Blank byte rest = omega arith
+class_within Hash byte rest = prefix_len-le-length is_not_line_feed rest
+class_within LineFeed byte rest = tt
+class_within Letter byte rest = prefix_len-le-length is_name_byte rest
+class_within Dot byte rest = dot_within rest
+class_within Minus byte rest = minus_within rest
+class_within Digit byte rest = positive_within _ rest (numeral_within byte rest)
+class_within (Sign kind) byte rest = omega arith
+class_within Other byte rest = omega arith
+
+-- each piece ends within the text
+pub piece_within : (byte : ℕ) (rest : List ℕ) → PieceFits (piece_at byte rest) (length rest)
+piece_within byte rest = class_within (class_of byte) byte rest
