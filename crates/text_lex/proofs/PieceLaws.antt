@@ -1,5 +1,5 @@
 -- A piece lies inside the text that it is the front of.
-use Rattle.std.proofs.Common.{◌≡◌, ℕ, ◌+◌, ◌-◌, ◌≤◌, ◌<◌, ◌∷◌, List, [], length, drop, take, Bool, true, false, arith, subst, sym, ap, ℤ, pos, refl, suc, add-one}
+use Rattle.std.proofs.Common.{◌≡◌, ℕ, ◌+◌, ◌-◌, ◌≤◌, ◌<◌, ◌∷◌, List, [], length, drop, take, Bool, true, false, arith, subst, sym, ap, ℤ, pos, refl, suc}
 use Rattle.std.specs.Prelude.{if◌then◌else◌, nat_lt, neg_ℤ}
 use Rattle.std.specs.List.{prefix_len, take_while}
 use Rattle.std.proofs.lemmas.List.{length-drop}
@@ -40,28 +40,28 @@ numeral_within byte rest = either (begins_hex byte rest) rest _ _ (hex_within by
 closed_within : (value : ℤ) (further room : ℕ) (behind : List ℕ) → further + length behind ≤ room → PieceFits (closed value further behind) room
 closed_within value further room [] h = omega arith
 closed_within value further room (byte ∷ bytes) h =
-    choice (λ p. PieceFits p room) (is_name_byte byte) _ _ (omega arith) (omega arith)
+    choice (λ p. PieceFits p room) (is_name_byte byte) (Bad (further + 1)) (Gives (Number value) further) (omega arith) (omega arith)
 
-positive_within : (n : Numeral) (rest : List ℕ) → n.further ≤ length rest → PieceFits (positive n rest) (length rest)
+pub positive_within : (n : Numeral) (rest : List ℕ) → n.further ≤ length rest → PieceFits (positive n rest) (length rest)
 positive_within n rest h =
-    choice (λ p. PieceFits p (length rest)) (nat_lt 4294967295 n.value) _ _ tt
-    (closed_within _ _ (length rest) _ (omega (arith, length-drop n.further rest)))
+    choice (λ p. PieceFits p (length rest)) (nat_lt 4294967295 n.value) TooLarge (closed (pos n.value) n.further (drop n.further rest)) tt
+    (closed_within (pos n.value) n.further (length rest) (drop n.further rest) (omega (arith, length-drop n.further rest)))
 
-negative_within : (n : Numeral) (rest : List ℕ) → n.further ≤ length rest → PieceFits (negative n rest) (1 + length rest)
-negative_within n rest h =
-    choice (λ p. PieceFits p (1 + length rest)) (nat_lt 2147483648 n.value) _ _ tt
-    (closed_within _ _ (1 + length rest) _ (omega (arith, length-drop n.further rest)))
+negative_within : (n : Numeral) (rest : List ℕ) (room : ℕ) → n.further ≤ length rest → length rest < room → PieceFits (negative n rest) room
+negative_within n rest room h k =
+    choice (λ p. PieceFits p room) (nat_lt 2147483648 n.value) TooLarge (closed (neg_ℤ (pos n.value)) (n.further + 1) (drop n.further rest)) tt
+    (closed_within (neg_ℤ (pos n.value)) (n.further + 1) room (drop n.further rest) (omega (arith, length-drop n.further rest)))
 
-minus_within : (rest : List ℕ) → PieceFits (after_minus rest) (length rest)
+pub minus_within : (rest : List ℕ) → PieceFits (after_minus rest) (length rest)
 minus_within [] = omega arith
 minus_within (byte ∷ rest) =
-    choice (λ p. PieceFits p (suc (length rest))) (is_digit byte) _ _
-    (rw add-one at (negative_within _ rest (numeral_within byte rest))) (omega arith)
+    choice (λ p. PieceFits p (suc (length rest))) (is_digit byte) (negative (numeral byte rest) rest) (Bad 0)
+    (negative_within (numeral byte rest) rest (suc (length rest)) (numeral_within byte rest) (omega arith)) (omega arith)
 
-dot_within : (rest : List ℕ) → PieceFits (after_dot rest) (length rest)
+pub dot_within : (rest : List ℕ) → PieceFits (after_dot rest) (length rest)
 dot_within [] = omega arith
 dot_within (byte ∷ rest) =
-    choice (λ p. PieceFits p (suc (length rest))) (is_letter byte) _ _
+    choice (λ p. PieceFits p (suc (length rest))) (is_letter byte) (Gives Directive (1 + prefix_len is_name_byte rest)) (Bad 0)
     (omega (arith, prefix_len-le-length is_name_byte rest)) (omega arith)
 
 class_within : (class : ByteClass) (byte : ℕ) (rest : List ℕ) → PieceFits (piece_of class byte rest) (length rest)
@@ -71,7 +71,7 @@ class_within LineFeed byte rest = tt
 class_within Letter byte rest = prefix_len-le-length is_name_byte rest
 class_within Dot byte rest = dot_within rest
 class_within Minus byte rest = minus_within rest
-class_within Digit byte rest = positive_within _ rest (numeral_within byte rest)
+class_within Digit byte rest = positive_within (numeral byte rest) rest (numeral_within byte rest)
 class_within (Sign kind) byte rest = omega arith
 class_within Other byte rest = omega arith
 

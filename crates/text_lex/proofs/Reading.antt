@@ -1,6 +1,6 @@
 -- Reading a text from a place on.
 use Rattle.std.proofs.Common.{◌≡◌, ℕ, zero, suc, ◌+◌, ◌-◌, ◌≤◌, ◌<◌, List, [], ◌∷◌, ◌++◌, length, drop, get_or, Bool, true, false, arith, subst, sym, ap, refl, ◌∙◌, append_assoc}
-use Rattle.std.proofs.lemmas.List.{length-drop, drop_more, drop-drop}
+use Rattle.std.proofs.lemmas.List.{drop_more, drop-drop, drop_all}
 use Rattle.text_lex.specs.Pieces.{piece_at}
 use Rattle.text_lex.specs.Tokens.{Lexed, Tokens, BadByteAt, TooLargeAt, before, token, lexed_from, lexed, last_end}
 use Rattle.text_lex.specs.declared.Token.{Token}
@@ -72,3 +72,8 @@ lexed_from-behind text at line further h =
     let same : at + 1 + further ≡ at + (further + 1) = omega arith in
     lexed_from-left further (at + 1) line (drop (at + 1) text) h
     ∙ (ap (lexed_from 0 (at + 1 + further) line true) (drop-drop further (at + 1) text) ∙ ap (λ p. lexed_from 0 p line true (drop p text)) same)
+
+-- at the end of the text
+pub lexed-all : (text : List ℕ) (at line : ℕ) (begun : Bool) (found : List Token) → lexed text ≡ joined found (lexed_from 0 at line begun (drop at text)) → length text ≤ at → lexed text ≡ Tokens (found ++ last_end begun at line)
+lexed-all text at line begun found e h =
+    e ∙ (ap (λ rest. joined found (lexed_from 0 at line begun rest)) (drop_all at text h) ∙ joined_tokens found (last_end begun at line))

@@ -1,6 +1,6 @@
 // The piece at the front of a text.
 
-ghost use Rattle.std.specs.Prelude.{◌≡◌, ◌+◌, ◌^◌, ◌<◌, ◌≤◌, drop, length, slice_index};
+ghost use Rattle.std.specs.Prelude.{◌≡◌, ◌+◌, ◌^◌, ◌<◌, ◌≤◌, drop, length, slice_index, pos, neg_ℤ};
 ghost use Rattle.text_lex.specs.Numbers.{numeral};
 ghost use Rattle.text_lex.specs.Pieces.{after_dot, after_minus, closed, negative, piece_at, positive, PieceFits};
 
@@ -47,6 +47,12 @@ fn positive(byte: u8, rest: &[u8]) -> Piece
     }
 }
 
+fn negated(value: u32) -> i64
+    ensures { result ≡ neg_ℤ (pos value) }
+{
+    -i64::from(value)
+}
+
 // A number behind its minus sign, from its first digit on.
 fn negative(byte: u8, rest: &[u8]) -> Piece
     requires { length rest.now ≤ 2 ^ 31 }
@@ -55,7 +61,7 @@ fn negative(byte: u8, rest: &[u8]) -> Piece
     let digits = numeral(byte, rest);
     match digits.value {
         Some(value) if value <= 2_147_483_648 => closed(
-            -i64::from(value),
+            negated(value),
             digits.further + 1,
             &rest[digits.further..],
         ),
