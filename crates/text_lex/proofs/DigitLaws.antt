@@ -3,9 +3,10 @@ use Rattle.std.proofs.Common.{◌≡◌, ℕ, ◌+◌, ◌*◌, ◌≤◌, ◌<�
 use Rattle.std.specs.Prelude.{if◌then◌else◌, nat_lt, neg_ℤ}
 use Rattle.std.proofs.Math.Nat.{mul-le-mul_left}
 use Rattle.std.proofs.lemmas.List.{drop_more}
-use Rattle.std.proofs.lemmas.Bool.{lt-ltb, le-ltb}
+use Rattle.std.proofs.lemmas.Bool.{lt-ltb, le-ltb, cond-true, cond-false}
 use Rattle.text_lex.specs.Numbers.{value_of, digit_value, word_of, Numeral}
 use Rattle.text_lex.specs.Pieces.{closed, negative}
+use Rattle.text_lex.specs.declared.pieces.Piece.TheVariants.{TooLarge}
 
 -- more digits never make a value smaller
 pub front-le-value_of : (base front : ℕ) (digits : List ℕ) → 1 ≤ base → front ≤ value_of base front digits
@@ -15,17 +16,9 @@ front-le-value_of base front (digit ∷ digits) h =
     let least : front * 1 ≤ front * base = mul-le-mul_left front h in
     omega (arith, more, least)
 
-pub if_true : {A : Type 0} (b : Bool) (x y : A) → b ≡ true → (if b then x else y) ≡ x
-if_true true x y h = refl
-if_true false x y h = cc
-
-pub if_false : {A : Type 0} (b : Bool) (x y : A) → b ≡ false → (if b then x else y) ≡ y
-if_false true x y h = cc
-if_false false x y h = refl
-
 -- a value above the word's greatest is none
 pub word_of_large : (n : ℕ) → 4294967295 < n → word_of n ≡ None
-word_of_large n h = if_true (nat_lt 4294967295 n) None (Some n) (lt-ltb 4294967295 n h)
+word_of_large n h = cond-true (nat_lt 4294967295 n) None (Some n) (lt-ltb 4294967295 n h)
 
 some_of_choice : (b : Bool) (n v : ℕ) → Some v ≡ (if b then None else Some n) → n ≡ v
 some_of_choice true n v h = cc
@@ -48,5 +41,5 @@ pub negative_in_range : (n : Numeral) (rest : List ℕ) (value : ℕ) → Some v
 negative_in_range n rest value h small =
     let e : n.value ≡ value = word_of_some n.value value h in
     let in_range : n.value ≤ 2147483648 = omega (arith, e, small) in
-    if_false (nat_lt 2147483648 n.value) _ (closed (neg_ℤ (pos n.value)) (n.further + 1) (drop n.further rest)) (le-ltb 2147483648 n.value in_range)
+    cond-false (nat_lt 2147483648 n.value) TooLarge (closed (neg_ℤ (pos n.value)) (n.further + 1) (drop n.further rest)) (le-ltb 2147483648 n.value in_range)
     ∙ ap (λ v. closed (neg_ℤ (pos v)) (n.further + 1) (drop n.further rest)) e

@@ -2,6 +2,7 @@
 use Rattle.std.proofs.Common.{◌≡◌, ℕ, ◌+◌, ◌-◌, ◌≤◌, ◌<◌, ◌∷◌, List, [], length, drop, take, Bool, true, false, arith, subst, sym, ap, ℤ, pos, refl, suc}
 use Rattle.std.specs.Prelude.{if◌then◌else◌, nat_lt, neg_ℤ}
 use Rattle.std.specs.List.{prefix_len, take_while}
+use Rattle.std.proofs.lemmas.Bool.{cond_both}
 use Rattle.std.proofs.lemmas.List.{length-drop}
 use Rattle.std.proofs.lemmas.List.Folds.{length-prefix_len}
 use Rattle.std.proofs.lemmas.List.Sums.{prefix_len-le-length}
@@ -14,11 +15,6 @@ use Rattle.text_lex.specs.declared.bytes.ByteClass.TheVariants.{Blank, Hash, Lin
 use Rattle.text_lex.specs.declared.pieces.Piece.{Piece}
 use Rattle.text_lex.specs.declared.pieces.Piece.TheVariants.{Skips, Ends, Gives, Bad, TooLarge}
 
--- of a choice, what holds of both sides
-pub choice : {A : Type 0} (P : A → Type 0) (b : Bool) (x y : A) → P x → P y → P (if b then x else y)
-choice P true x y p q = p
-choice P false x y p q = q
-
 -- a hexadecimal number ends within the text
 hex_within : (byte : ℕ) (rest : List ℕ) → (begins_hex byte rest ≡ true) → 1 + length (take_while is_hex_digit (drop 1 rest)) ≤ length rest
 hex_within byte [] h = cc
@@ -29,40 +25,40 @@ hex_within byte (next ∷ (digit ∷ rest)) h =
 decimal_within : (rest : List ℕ) → length (take_while is_digit rest) ≤ length rest
 decimal_within rest = omega (arith, prefix_len-le-length is_digit rest, length-prefix_len is_digit rest)
 
-either : (b : Bool) (rest : List ℕ) (x y : Numeral) → (b ≡ true → x.further ≤ length rest) → y.further ≤ length rest → (if b then x else y).further ≤ length rest
-either true rest x y p q = p refl
-either false rest x y p q = q
-
 -- a number without a sign ends within the text
 pub numeral_within : (byte : ℕ) (rest : List ℕ) → (numeral byte rest).further ≤ length rest
-numeral_within byte rest = either (begins_hex byte rest) rest _ _ (hex_within byte rest) (decimal_within rest)
+numeral_within byte rest =
+    cond_both (begins_hex byte rest) (hex_numeral (take_while is_hex_digit (drop 1 rest))) (decimal_numeral byte (take_while is_digit rest))
+    (λ (n : Numeral). n.further ≤ length rest) (hex_within byte rest) (λ e. decimal_within rest)
 
 closed_within : (value : ℤ) (further room : ℕ) (behind : List ℕ) → further + length behind ≤ room → PieceFits (closed value further behind) room
 closed_within value further room [] h = omega arith
 closed_within value further room (byte ∷ bytes) h =
-    choice (λ p. PieceFits p room) (is_name_byte byte) (Bad (further + 1)) (Gives (Number value) further) (omega arith) (omega arith)
+    cond_both (is_name_byte byte) (Bad (further + 1)) (Gives (Number value) further) (λ p. PieceFits p room) (λ e. omega (arith, h)) (λ e. omega (arith, h))
 
 pub positive_within : (n : Numeral) (rest : List ℕ) → n.further ≤ length rest → PieceFits (positive n rest) (length rest)
 positive_within n rest h =
-    choice (λ p. PieceFits p (length rest)) (nat_lt 4294967295 n.value) TooLarge (closed (pos n.value) n.further (drop n.further rest)) tt
-    (closed_within (pos n.value) n.further (length rest) (drop n.further rest) (omega (arith, length-drop n.further rest)))
+    let behind : n.further + length (drop n.further rest) ≤ length rest = omega (arith, length-drop n.further rest) in
+    cond_both (nat_lt 4294967295 n.value) TooLarge (closed (pos n.value) n.further (drop n.further rest)) (λ p. PieceFits p (length rest))
+    (λ e. tt) (λ e. closed_within (pos n.value) n.further (length rest) (drop n.further rest) behind)
 
 negative_within : (n : Numeral) (rest : List ℕ) (room : ℕ) → n.further ≤ length rest → length rest < room → PieceFits (negative n rest) room
 negative_within n rest room h k =
-    choice (λ p. PieceFits p room) (nat_lt 2147483648 n.value) TooLarge (closed (neg_ℤ (pos n.value)) (n.further + 1) (drop n.further rest)) tt
-    (closed_within (neg_ℤ (pos n.value)) (n.further + 1) room (drop n.further rest) (omega (arith, length-drop n.further rest)))
+    let behind : n.further + 1 + length (drop n.further rest) ≤ room = omega (arith, length-drop n.further rest) in
+    cond_both (nat_lt 2147483648 n.value) TooLarge (closed (neg_ℤ (pos n.value)) (n.further + 1) (drop n.further rest)) (λ p. PieceFits p room)
+    (λ e. tt) (λ e. closed_within (neg_ℤ (pos n.value)) (n.further + 1) room (drop n.further rest) behind)
 
 pub minus_within : (rest : List ℕ) → PieceFits (after_minus rest) (length rest)
 minus_within [] = omega arith
 minus_within (byte ∷ rest) =
-    choice (λ p. PieceFits p (suc (length rest))) (is_digit byte) (negative (numeral byte rest) rest) (Bad 0)
-    (negative_within (numeral byte rest) rest (suc (length rest)) (numeral_within byte rest) (omega arith)) (omega arith)
+    cond_both (is_digit byte) (negative (numeral byte rest) rest) (Bad 0) (λ p. PieceFits p (suc (length rest)))
+    (λ e. negative_within (numeral byte rest) rest (suc (length rest)) (numeral_within byte rest) (omega arith)) (λ e. omega arith)
 
 pub dot_within : (rest : List ℕ) → PieceFits (after_dot rest) (length rest)
 dot_within [] = omega arith
 dot_within (byte ∷ rest) =
-    choice (λ p. PieceFits p (suc (length rest))) (is_letter byte) (Gives Directive (1 + prefix_len is_name_byte rest)) (Bad 0)
-    (omega (arith, prefix_len-le-length is_name_byte rest)) (omega arith)
+    cond_both (is_letter byte) (Gives Directive (1 + prefix_len is_name_byte rest)) (Bad 0) (λ p. PieceFits p (suc (length rest)))
+    (λ e. omega (arith, prefix_len-le-length is_name_byte rest)) (λ e. omega arith)
 
 class_within : (class : ByteClass) (byte : ℕ) (rest : List ℕ) → PieceFits (piece_of class byte rest) (length rest)
 class_within Blank byte rest = omega arith
