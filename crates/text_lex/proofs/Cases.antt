@@ -1,5 +1,5 @@
 -- Small texts and their tokens.
-use Rattle.std.proofs.Common.{◌≡◌, List, [], ◌∷◌, refl, pos, negsuc}
+use Rattle.std.proofs.Common.{◌≡◌, [], ◌∷◌, refl, pos, negsuc}
 use Rattle.std.specs.Prelude.{codes}
 use Rattle.text_lex.specs.Tokens.{Tokens, BadByteAt, TooLargeAt, lexed, token}
 use Rattle.text_lex.specs.declared.TokenKind.TheVariants.{Name, Directive, Number, Comma, Open, Close, Colon, End}

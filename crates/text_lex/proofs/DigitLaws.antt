@@ -1,5 +1,5 @@
 -- Values of digits, and what fits a word.
-use Rattle.std.proofs.Common.{◌≡◌, ℕ, ◌+◌, ◌*◌, ◌≤◌, ◌<◌, ◌∷◌, List, [], length, drop, get_or, arith, Option, None, Some, Bool, true, false, refl, ap, sym, ◌∙◌, ltb, ℤ, pos}
+use Rattle.std.proofs.Common.{◌≡◌, ℕ, ◌+◌, ◌*◌, ◌≤◌, ◌<◌, ◌∷◌, List, [], length, drop, get_or, arith, None, Some, Bool, true, false, ap, ◌∙◌, pos}
 use Rattle.std.specs.Prelude.{if◌then◌else◌, nat_lt, neg_ℤ}
 use Rattle.std.proofs.Math.Nat.{mul-le-mul_left}
 use Rattle.std.proofs.lemmas.List.{drop_more}

@@ -1,6 +1,6 @@
 -- The bytes of a token are those of its kind.
-use Rattle.std.proofs.Common.{◌≡◌, ℕ, zero, suc, ◌+◌, ◌-◌, ◌≤◌, ◌<◌, ◌⊎◌, List, [], ◌∷◌, length, drop, take, Bool, true, false, arith, refl, ap, subst, inl, inr, ℤ, pos, negsuc}
-use Rattle.std.specs.Prelude.{if◌then◌else◌, nat_lt, neg_ℤ, ◌≤ℤ◌, ◌&&◌, ◌==◌}
+use Rattle.std.proofs.Common.{◌≡◌, ℕ, zero, suc, ◌+◌, ◌≤◌, ◌⊎◌, List, [], ◌∷◌, drop, take, Bool, true, false, arith, refl, ap, subst, ℤ, pos, negsuc}
+use Rattle.std.specs.Prelude.{nat_lt, neg_ℤ, ◌≤ℤ◌, ◌&&◌, ◌==◌}
 use Rattle.std.specs.List.{prefix_len, take_while, list_all}
 use Rattle.std.proofs.lemmas.Bool.{cond_both, eqb-true, eq-eqb, ltb-false, and_from}
 use Rattle.std.proofs.lemmas.Int.{ints}
@@ -13,7 +13,7 @@ use Rattle.text_lex.specs.declared.TokenKind.TheVariants.{Name, Directive, Numbe
 use Rattle.text_lex.specs.declared.bytes.ByteClass.{ByteClass}
 use Rattle.text_lex.specs.declared.bytes.ByteClass.TheVariants.{Blank, Hash, LineFeed, Letter, Dot, Minus, Digit, Sign, Other}
 use Rattle.text_lex.specs.declared.pieces.Piece.{Piece}
-use Rattle.text_lex.specs.declared.pieces.Piece.TheVariants.{Skips, Ends, Gives, Bad, TooLarge}
+use Rattle.text_lex.specs.declared.pieces.Piece.TheVariants.{Ends, Gives, Bad, TooLarge}
 
 -- from -2,147,483,648 to 4,294,967,295
 pub record IsInRange (value : ℤ) : Type 0 where

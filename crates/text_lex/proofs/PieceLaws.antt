@@ -1,6 +1,6 @@
 -- A piece lies inside the text that it is the front of.
-use Rattle.std.proofs.Common.{◌≡◌, ℕ, ◌+◌, ◌-◌, ◌≤◌, ◌<◌, ◌∷◌, List, [], length, drop, take, Bool, true, false, arith, subst, sym, ap, ℤ, pos, refl, suc}
-use Rattle.std.specs.Prelude.{if◌then◌else◌, nat_lt, neg_ℤ}
+use Rattle.std.proofs.Common.{◌≡◌, ℕ, ◌+◌, ◌≤◌, ◌<◌, ◌∷◌, List, [], length, drop, true, arith, ℤ, pos, suc}
+use Rattle.std.specs.Prelude.{nat_lt, neg_ℤ}
 use Rattle.std.specs.List.{prefix_len, take_while}
 use Rattle.std.proofs.lemmas.Bool.{cond_both}
 use Rattle.std.proofs.lemmas.List.{length-drop}
@@ -9,11 +9,10 @@ use Rattle.std.proofs.lemmas.List.Sums.{prefix_len-le-length}
 use Rattle.text_lex.specs.Bytes.{class_of, is_name_byte, is_letter, is_digit, is_hex_digit, is_not_line_feed}
 use Rattle.text_lex.specs.Numbers.{Numeral, numeral, begins_hex, hex_numeral, decimal_numeral}
 use Rattle.text_lex.specs.Pieces.{PieceFits, closed, positive, negative, after_minus, after_dot, piece_of, piece_at}
-use Rattle.text_lex.specs.declared.TokenKind.TheVariants.{Name, Directive, Number}
+use Rattle.text_lex.specs.declared.TokenKind.TheVariants.{Directive, Number}
 use Rattle.text_lex.specs.declared.bytes.ByteClass.{ByteClass}
 use Rattle.text_lex.specs.declared.bytes.ByteClass.TheVariants.{Blank, Hash, LineFeed, Letter, Dot, Minus, Digit, Sign, Other}
-use Rattle.text_lex.specs.declared.pieces.Piece.{Piece}
-use Rattle.text_lex.specs.declared.pieces.Piece.TheVariants.{Skips, Ends, Gives, Bad, TooLarge}
+use Rattle.text_lex.specs.declared.pieces.Piece.TheVariants.{Gives, Bad, TooLarge}
 
 -- a hexadecimal number ends within the text
 hex_within : (byte : ℕ) (rest : List ℕ) → (begins_hex byte rest ≡ true) → 1 + length (take_while is_hex_digit (drop 1 rest)) ≤ length rest

@@ -1,10 +1,9 @@
 -- Reading a text from a place on.
-use Rattle.std.proofs.Common.{◌≡◌, ℕ, zero, suc, ◌+◌, ◌-◌, ◌≤◌, ◌<◌, List, [], ◌∷◌, ◌++◌, length, drop, get_or, Bool, true, false, arith, subst, sym, ap, refl, ◌∙◌, append_assoc}
+use Rattle.std.proofs.Common.{◌≡◌, ℕ, zero, suc, ◌+◌, ◌≤◌, ◌<◌, List, [], ◌∷◌, ◌++◌, length, drop, get_or, Bool, true, false, arith, sym, ap, refl, ◌∙◌}
 use Rattle.std.proofs.lemmas.List.{drop_more, drop-drop, drop_all}
 use Rattle.text_lex.specs.Pieces.{piece_at}
 use Rattle.text_lex.specs.Tokens.{Lexed, Tokens, BadByteAt, TooLargeAt, before, token, lexed_from, lexed, last_end}
 use Rattle.text_lex.specs.declared.Token.{Token}
-use Rattle.text_lex.specs.declared.TokenKind.{TokenKind}
 use Rattle.text_lex.specs.declared.TokenKind.TheVariants.{End}
 use Rattle.text_lex.specs.declared.pieces.Piece.{Piece}
 use Rattle.text_lex.specs.declared.pieces.Piece.TheVariants.{Skips, Ends, Gives, Bad, TooLarge}

@@ -1,5 +1,5 @@
 -- What is known of the tokens of a text, from `lexed text ≡ Tokens tokens`.
-use Rattle.std.proofs.Common.{◌≡◌, ℕ, zero, suc, ◌+◌, ◌-◌, ◌≤◌, ◌<◌, List, [], ◌∷◌, length, drop, take, get_or, Bool, true, false, arith, refl, ap, sym, ◌∙◌, subst, inl, inr, add-one, ℤ}
+use Rattle.std.proofs.Common.{◌≡◌, ℕ, zero, suc, ◌+◌, ◌≤◌, ◌<◌, List, [], ◌∷◌, length, drop, take, get_or, Bool, true, false, arith, refl, ap, sym, ◌∙◌, subst, inl, inr, add-one, ℤ}
 use Rattle.std.specs.Prelude.{All}
 use Rattle.std.proofs.lemmas.List.{drop-drop, length-take, length-drop}
 use Rattle.text_lex.specs.Bytes.{is_name}

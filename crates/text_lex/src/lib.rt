@@ -5,6 +5,8 @@ mod bytes;
 mod numbers;
 mod pieces;
 mod scan;
+#[cfg(test)]
+mod tests;
 
 pub use scan::{slice, tokens};
 use thiserror::Error;
@@ -41,7 +43,7 @@ pub struct Token {
 }
 
 /// Why a text has no tokens. Each fault has its place in the text, from 0, and its line, from 1.
-#[derive(Debug, Drop, Error)]
+#[derive(Clone, Copy, Debug, PartialEq, Eq, Error)]
 pub enum LexError {
     /// There was no memory for the tokens.
     #[error("out of memory")]

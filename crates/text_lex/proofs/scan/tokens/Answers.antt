@@ -1,4 +1,4 @@
-use Rattle.std.proofs.Common.{arith, ◌≡◌, ◌+◌, ◌++◌, ap, sym, ◌∙◌, length, drop, refl, true, false, Vec, Global}
+use Rattle.std.proofs.Common.{arith, ◌+◌, ◌++◌, ap, sym, ◌∙◌, drop, true, false, Vec, Global}
 use Rattle.std.proofs.lemmas.List.{length-drop, append-nil}
 use Rattle.text_lex.specs.Tokens.{lexed_from, token, before, last_end, Tokens}
 use Rattle.text_lex.specs.declared.Token.{Token}
