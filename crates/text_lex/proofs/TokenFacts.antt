@@ -122,6 +122,7 @@ tokens_from text (byte ∷ rest) place e n (suc left) line from begun tokens l h
 
 -- the tokens of a text, as far as the crates above need them
 pub tokens_of : (text : List ℕ) (tokens : List Token) → lexed text ≡ Tokens tokens → AreTokensFrom text 0 1 false tokens
+unfolding lexed
 tokens_of text tokens r = tokens_from text text 0 refl (omega arith) 0 1 0 false tokens (omega arith) (omega arith) r
 
 token_at : (text : List ℕ) (place line : ℕ) (begun : Bool) (tokens : List Token) (i : ℕ) (d : Token) → AreTokensFrom text place line begun tokens → i < length tokens → IsTokenOf text (get_or tokens i d)

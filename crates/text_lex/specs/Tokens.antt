@@ -41,7 +41,7 @@ lexed_from zero place line begun (byte ∷ rest) = elim (piece_at byte rest) [
 ]
 
 -- what a text is read as
-abbrev pub lexed : List ℕ → Lexed
+unfoldable pub lexed : List ℕ → Lexed
 lexed text = lexed_from 0 0 1 false text
 
 -- the error tells the fault of the text, and want of memory tells nothing of it

@@ -1,12 +1,16 @@
-use Rattle.std.proofs.Common.{arith, ◌+◌, ◌++◌, ap, sym, ◌∙◌, drop, true, false, Vec, Global}
+use Rattle.std.proofs.Common.{arith, rules, ◌+◌, ◌++◌, ap, sym, ◌∙◌, drop, true, false, Vec, Global}
 use Rattle.std.proofs.lemmas.List.{length-drop, append-nil}
-use Rattle.text_lex.specs.Tokens.{lexed_from, token, before, last_end, Tokens}
+use Rattle.text_lex.specs.Tokens.{lexed, lexed_from, token, before, last_end, Tokens}
 use Rattle.text_lex.specs.declared.Token.{Token}
 use Rattle.text_lex.specs.declared.TokenKind.TheVariants.{End}
 use Rattle.text_lex.specs.declared.pieces.Piece.TheVariants.{Skips, Ends, Gives, Bad, TooLarge}
 use Rattle.text_lex.proofs.Reading.{joined, joined_push, joined_bad, joined_large, lexed_from-piece, lexed_from-behind, lexed-all}
 use Rattle.text_lex.proofs.scan.tokens.Goals as goal
 use Rattle.text_lex.proofs.scan.tokens.Goals.{then-begun+in_ok-add, else-begun}
+
+pub reading-init : goal.reading-init
+unfolding lexed
+reading-init c = record { within = omega arith; lines = omega arith; reading = search rules }
 
 pub reading-preserved-in-Skips : goal.reading-preserved-in-Skips
 reading-preserved-in-Skips c = record {
