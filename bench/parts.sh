@@ -1,0 +1,35 @@
+#!/bin/sh
+# Measures parts of the work against `sha256sum` over as many bytes, in one run on one machine.
+# Prints a line a part: the time of the part and of sha256sum, each the best of seven, and their ratio.
+# First build the program: (cd crates/bench_parts && rt run)
+set -eu
+cd "$(dirname "$0")/.."
+program=crates/bench_parts/out/bench_parts
+test -x "$program" || { echo "no $program: run rt run in crates/bench_parts first" >&2; exit 1; }
+count=${1:-4194304}
+folder=$(mktemp -d)
+trap 'rm -rf "$folder"' EXIT
+
+# The least number of nanoseconds that a command took.
+best() {
+    least=
+    for turn in 1 2 3 4 5 6 7; do
+        before=$(date +%s%N)
+        "$@" > /dev/null
+        taken=$(($(date +%s%N) - before))
+        if [ -z "$least" ] || [ "$taken" -lt "$least" ]; then least=$taken; fi
+    done
+    echo "$least"
+}
+
+head -c "$count" /dev/zero | tr '\0' '\n' > "$folder/lines"
+head -c "$count" /dev/zero | tr '\0' '#' > "$folder/comment"
+head -c "$count" /dev/zero | tr '\0' '0' > "$folder/number"
+yes 'go: lw t1, -4(sp) # the top' | head -c "$count" > "$folder/instructions"
+empty=$(best "$program")
+for part in lines comment number instructions; do
+    took=$(best "$program" "tokens-$part" "$count")
+    hash=$(best sha256sum "$folder/$part")
+    echo "tokens-$part $count: $((took / 1000)) us, sha256sum $((hash / 1000)) us, ratio $((took * 100 / hash))/100"
+done
+echo "the program alone: $((empty / 1000)) us"

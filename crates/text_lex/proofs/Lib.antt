@@ -1,0 +1,6 @@
+pub mod DigitLaws
+pub mod PieceLaws
+pub mod KindLaws
+pub mod Reading
+pub mod TokenFacts
+pub mod Cases
