@@ -1,0 +1,4 @@
+pub mod Exec
+pub mod Memory
+pub mod Registers
+pub mod Words
