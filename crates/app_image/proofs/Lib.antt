@@ -1,0 +1,13 @@
+pub mod RefusalLemmas
+pub mod RangeTests
+pub mod Searches
+pub mod ValidLemmas
+pub mod Pieces
+pub mod RowLaws
+pub mod TrimLaws
+pub mod ServiceNames
+pub mod ReadLaws
+pub mod BackFields
+pub mod BackChecks
+pub mod BackImage
+pub mod BackWhole

@@ -1,0 +1,7 @@
+-- whether all from here on are 0 is whether all are
+use Rattle.std.proofs.Common.{◌≡◌, ◌==◌, drop}
+use Rattle.std.specs.List.{list_all}
+use Rattle.app_image.proofs.reading.are_zeros.Given as goal
+
+abbrev pub invariant-loop-word : goal.invariant-loop-word
+invariant-loop-word l = list_all (λ w. w == 0) (drop l.word-index l.words) ≡ list_all (λ w. w == 0) l.words

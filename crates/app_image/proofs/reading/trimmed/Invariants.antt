@@ -1,0 +1,13 @@
+-- behind the length there are zeros alone
+use Rattle.std.proofs.Common.{◌≡◌, ◌≤◌, length, take}
+use Rattle.app_image.specs.Reading.{trimmed}
+use Rattle.app_image.proofs.reading.trimmed.Given as goal
+
+abbrev pub invariant-loop-len : goal.invariant-loop-len
+invariant-loop-len l = record {
+  within : l.len ≤ length l.bytes;
+  same : trimmed (take l.len l.bytes) ≡ trimmed l.bytes;
+}
+
+abbrev pub decreases-loop-len : goal.decreases-loop-len
+decreases-loop-len l = l.len

@@ -1,0 +1,15 @@
+pub mod Padding
+pub mod CauseNumbers
+pub mod NameView
+pub mod Names
+pub mod Addresses
+pub mod Settings
+pub mod Raw
+pub mod Image
+pub mod ImageView
+pub mod Refusal
+pub mod Layout
+pub mod Fields
+pub mod Places
+pub mod Reading
+pub mod RoundTrip
