@@ -1,0 +1,331 @@
+-- What keeps the kernel valid besides wakes and blocks: a change of content, the end of a wait, a trap; and how long the
+-- lists of a valid kernel are.
+use Rattle.std.proofs.Common.{◌≡◌, ◌⊎◌, ℕ, zero, suc, ◌<◌, ◌≤◌, ◌+◌, List, [], ◌∷◌, length, get_or, refl, sym, ap, ◌∙◌, subst, Bool, true, false, ◌&&◌, arith, inl, inr, Option, Some, None}
+use Rattle.std.specs.Prelude.{All, ◌==◌, if◌then◌else◌, bit_and, bit_or}
+use Rattle.std.proofs.lemmas.List.{length-set, get_or_past}
+use Rattle.std.proofs.lemmas.Bool.{true≢false, cases_lt}
+use Rattle.std.proofs.lemmas.Bool.Decides.{eqb_tells}
+use Rattle.std.proofs.lemmas.List.Elements.{All-head, All-tail}
+use Rattle.std.proofs.lemmas.Nat.{or_lt, and_le_l}
+use Rattle.kern_base.specs.declared.services.Service.{Service}
+use Rattle.kern_base.specs.declared.services.Service.TheVariants.{FlagPend}
+use Rattle.kern_base.specs.declared.errors.OsErr.{OsErr}
+use Rattle.kern_base.specs.declared.errors.OsErr.TheVariants.{NoError}
+use Rattle.kern_base.specs.declared.outcomes.Finished.{Finished}
+use Rattle.kern_model.specs.State.{Kernel, Task, Object, Content, Count, Messages, Bits, Held, Timed, list_at, update_list, update_task, update_object, with_content, no_task, no_object, task_at, prio_of, object_at, count_of, without, is_ready, is_zero, waits_for_nothing}
+use Rattle.kern_model.specs.FlagBits.{consumed, turned, has_bit}
+use Rattle.kern_model.specs.Finish.{finished, finished_with, flags_consumed, consumed_in, consumed_object, consumed_content}
+use Rattle.kern_model.specs.Stop.{stopped}
+use Rattle.kern_model.specs.Valid.{IsValid, IsTask, IsContent, IsWord, IsResult, AllWait, one_if, matched, has_result}
+use Rattle.kern_model.proofs.StepLaws.{choice}
+use Rattle.kern_model.proofs.Laws.{task-updated, task-other}
+use Rattle.kern_model.proofs.CountLaws.{length-le_by_counts}
+use Rattle.kern_model.proofs.ListLaws.{count-left_other, count-left_here, count-left_none}
+use Rattle.kern_model.proofs.ValidLaws.{OneTask, valid-one_task, self_equal, ready_free}
+
+inside : (bs : List Object) (o : ℕ) → (get_or bs o no_object).deleted ≡ false → o < length bs
+inside [] o h = absurd (true≢false h)
+inside (b ∷ bs) zero h = omega arith
+inside (b ∷ bs) (suc o) h = omega (arith, inside bs o h)
+
+-- an object that is not deleted stands among the objects
+pub object_inside : (k : Kernel) (o : ℕ) → (object_at k o).deleted ≡ false → o < length k.objects
+object_inside k o h = inside k.objects o h
+
+-- other contents of the objects
+pub valid-objects : (k : Kernel) (objects : List Object) → length objects ≡ length k.objects → ((o : ℕ) → IsContent (get_or objects o no_object).content) → IsValid k → IsValid (record k { objects = objects })
+valid-objects k objects same each v =
+    record {
+      tasks = v.tasks;
+      ready = v.ready;
+      pend = v.pend ∙ sym same;
+      objects = omega (arith, same, v.objects);
+      application = v.application;
+      each_task = λ x. subst (λ n. IsTask n (task_at k x)) (sym same) (v.each_task x);
+      each_object = each;
+      stands = v.stands;
+      waiters = v.waiters;
+      once_matched = v.once_matched;
+      match_words = v.match_words;
+      internal = v.internal;
+      declared = v.declared;
+      handler = v.handler;
+      idle = v.idle;
+      idle_prio = v.idle_prio;
+      above_idle = v.above_idle;
+      tick_lives = v.tick_lives;
+      timer_lives = v.timer_lives;
+      tick_waits = v.tick_waits;
+      timer_waits = v.timer_waits;
+      lock = v.lock;
+      locked = v.locked;
+      callback = v.callback;
+      ticks = v.ticks;
+      timer_count = v.timer_count;
+    }
+
+-- what holds of each object holds after a change of one that keeps it there
+pub update_object_keeps : (P : Object → Type 0) (f : Object → Object) (bs : List Object) (o : ℕ) → (P (get_or bs o no_object) → P (f (get_or bs o no_object))) → ((i : ℕ) → P (get_or bs i no_object)) → (i : ℕ) → P (get_or (update_object bs o f) i no_object)
+update_object_keeps P f [] o h old i = old i
+update_object_keeps P f (b ∷ bs) zero h old zero = h (old 0)
+update_object_keeps P f (b ∷ bs) zero h old (suc i) = old (suc i)
+update_object_keeps P f (b ∷ bs) (suc o) h old zero = old 0
+update_object_keeps P f (b ∷ bs) (suc o) h old (suc i) = update_object_keeps P f bs o h (λ j. old (suc j)) i
+
+pub valid-with_content : (k : Kernel) (o : ℕ) (content : Content) → IsContent content → IsValid k → IsValid (with_content k o content)
+valid-with_content k o content c v =
+    valid-objects k (update_object k.objects o (λ b. record b { content = content })) (length-set k.objects o _)
+    (update_object_keeps (λ b. IsContent b.content) (λ b. record b { content = content }) k.objects o (λ _. c) v.each_object) v
+
+-- the bits of a group stay a word
+consumed-word : (bits ready opt : ℕ) → IsWord bits → IsWord ready → IsWord (consumed bits ready opt)
+consumed-word bits ready opt b r =
+    choice IsWord (has_bit opt 4) (if has_bit opt 2 then bit_or bits ready else bit_and bits (turned ready)) bits
+    (choice IsWord (has_bit opt 2) (bit_or bits ready) (bit_and bits (turned ready)) (or_lt 32 bits ready b r) (omega (arith, b, and_le_l bits (turned ready))))
+    b
+
+consumed_content-valid : (ready opt : ℕ) (c : Content) → IsWord ready → IsContent c → IsContent (consumed_content ready opt c)
+consumed_content-valid ready opt (Bits bits) r c = consumed-word bits ready opt c r
+consumed_content-valid ready opt (Count n) r c = c
+consumed_content-valid ready opt (Messages limit ms) r c = c
+consumed_content-valid ready opt (Held owner nesting) r c = c
+consumed_content-valid ready opt (Timed t) r c = c
+
+-- the end of a wait
+consumed_objects-valid : (t : Task) (ready : ℕ) (bs : List Object) → IsWord ready → ((i : ℕ) → IsContent (get_or bs i no_object).content) → (s : Service) (err : OsErr) → (length (flags_consumed s err t ready bs) ≡ length bs) × ((i : ℕ) → IsContent (get_or (flags_consumed s err t ready bs) i no_object).content)
+consumed_objects-valid t ready bs word each FlagPend NoError = consumed_in-valid t.objects
+  where
+    one_valid : (b : Object) (d : Bool) → IsContent b.content → IsContent (Object.content (if d then b else record b { content = consumed_content ready t.opt b.content }))
+    one_valid b true c = c
+    one_valid b false c = consumed_content-valid ready t.opt b.content word c
+
+    consumed_in-valid : (os : List ℕ) → (length (consumed_in os ready t.opt bs) ≡ length bs) × ((i : ℕ) → IsContent (get_or (consumed_in os ready t.opt bs) i no_object).content)
+    consumed_in-valid [] = (refl, each)
+    consumed_in-valid (o ∷ os) =
+        (length-set bs o _, update_object_keeps (λ b. IsContent b.content) (consumed_object ready t.opt) bs o (λ c. one_valid (get_or bs o no_object) (get_or bs o no_object).deleted c) each)
+consumed_objects-valid t ready bs word each s err = (refl, each)
+
+-- the changes of a task record
+abbrev pub cleared_task : Task → Task
+cleared_task t = record t { answered = None }
+
+abbrev pub dead_task : Task → Task
+dead_task t = record t { alive = false }
+
+-- the task without its result, where the objects are such already
+one_task-cleared : (k : Kernel) → IsValid k → (x : ℕ) → x < 60 → OneTask k (record k { tasks = update_task k.tasks x cleared_task }) x
+one_task-cleared k v x inside =
+    let t = task_at k x in
+    record {
+      application = inside;
+      tasks = length-set k.tasks x _;
+      ready = refl;
+      pend = refl;
+      objects = refl;
+      settings = refl;
+      others = task-other k.tasks x cleared_task;
+      task = subst (λ u. IsTask (length k.objects) u) (sym own) (cleared_valid (length k.objects) t (v.each_task x));
+      lives = λ a. ap (λ (u : Task). u.alive) (sym own) ∙ a;
+      prio = λ a. subst (λ (u : Task). u.prio ≤ 62) (sym own) (v.above_idle x (λ e. absurd (omega (arith, e))) (ap (λ (u : Task). u.alive) (sym own) ∙ a));
+      each_object = v.each_object;
+      ready_others = λ p y d. refl;
+      ready_own = λ p. v.stands p x ∙ ap (λ (u : Task). one_if (is_ready u && (u.prio == p))) (sym own);
+      pend_others = λ o y d. refl;
+      pend_own = λ o. v.waiters o x ∙ ap (λ (u : Task). if waits_for_nothing u.waiting then 0 else count_of o u.objects) (sym own);
+      match_others = λ y d. refl;
+      match_own = subst (λ (u : Task). count_of x (matched k.matches) ≤ (if waits_for_nothing u.waiting then 0 else 1)) (sym own) (v.once_matched x);
+      match_words = v.match_words;
+      tick_signals = refl;
+      timer_signals = refl;
+      processing = refl;
+      in_callback = refl;
+      ticks = refl;
+      timer_count = refl;
+      lock = v.lock;
+      locked = v.locked;
+    }
+  where
+    own : get_or (update_task k.tasks x cleared_task) x no_task ≡ cleared_task (task_at k x)
+    own = task-updated k.tasks x cleared_task (omega (arith, v.tasks))
+
+    cleared_valid : (n : ℕ) (t : Task) → IsTask n t → IsTask n (cleared_task t)
+    cleared_valid n t i =
+        record {
+          prio_from = i.prio_from;
+          prio_to = i.prio_to;
+          objects = i.objects;
+          few = i.few;
+          different = i.different;
+          lives = i.lives;
+          reads = λ e. refl;
+          suspended = i.suspended;
+          count = i.count;
+          result = tt;
+        }
+
+finished-by : (x : ℕ) (k : Kernel) → IsValid k → (a : Option Finished) → (task_at k x).answered ≡ a → IsValid (finished_with a x k)
+finished-by x k v None e = v
+finished-by x k v (Some f) e =
+    let t = task_at k x in
+    let word : IsWord f.answer.value = subst IsResult e (v.each_task x).result in
+    let objects = flags_consumed f.service f.answer.err t f.answer.value k.objects in
+    let each = consumed_objects-valid t f.answer.value k.objects word v.each_object f.service f.answer.err in
+    let j : Kernel = record k { objects = objects } in
+    let valid : IsValid j = valid-objects k objects each.0 each.1 v in
+    valid-one_task j (record j { tasks = update_task k.tasks x cleared_task }) x valid (one_task-cleared j valid x (inside_60 (cases_lt x 60)))
+  where
+    inside_60 : (x < 60) ⊎ (60 ≤ x) → x < 60
+    inside_60 (inl h) = h
+    inside_60 (inr h) = absurd (true≢false (sym (ap has_result e) ∙ (v.internal x h).1))
+
+pub valid-finished : (x : ℕ) (k : Kernel) → IsValid k → IsValid (finished x k)
+valid-finished x k v = finished-by x k v (task_at k x).answered refl
+
+-- a trap of a ready application task, while the timer task is not processing
+pub valid-stopped : (x : ℕ) (k : Kernel) → IsValid k → x < 60 → is_ready (task_at k x) ≡ true → k.processing ≡ false → IsValid (stopped x k)
+valid-stopped x k v inside r quiet = valid-one_task k (stopped x k) x v one
+  where
+    own : task_at (stopped x k) x ≡ dead_task (task_at k x)
+    own = task-updated k.tasks x dead_task (omega (arith, v.tasks))
+
+    free : waits_for_nothing (task_at k x).waiting ≡ true
+    free = ready_free (task_at k x).alive (waits_for_nothing (task_at k x).waiting) (is_zero (task_at k x).suspended) r
+
+    gone : (p : ℕ) → count_of x (list_at (update_list k.ready (prio_of k x) (without x)) p) ≡ 0
+    gone p =
+        elim (eqb_tells (prio_of k x) p) [
+          | inl e ↦ subst (λ z. count_of x (list_at (update_list k.ready (prio_of k x) (without x)) z) ≡ 0) e.1 (count-left_here x (prio_of k x) k.ready)
+          | inr e ↦ count-left_none x (prio_of k x) k.ready p (v.stands p x ∙ ap (λ b. one_if (b && (prio_of k x == p))) r ∙ ap one_if e.0)
+        ]
+
+    dead_valid : IsTask (length k.objects) (dead_task (task_at k x))
+    dead_valid =
+        let i = v.each_task x in
+        record {
+          prio_from = i.prio_from;
+          prio_to = i.prio_to;
+          objects = i.objects;
+          few = i.few;
+          different = i.different;
+          lives = λ e. absurd (true≢false (sym free ∙ e));
+          reads = i.reads;
+          suspended = i.suspended;
+          count = i.count;
+          result = i.result;
+        }
+
+    one : OneTask k (stopped x k) x
+    one =
+        record {
+          application = inside;
+          tasks = length-set k.tasks x _;
+          ready = length-set k.ready (prio_of k x) _;
+          pend = refl;
+          objects = refl;
+          settings = refl;
+          others = task-other k.tasks x dead_task;
+          task = subst (λ u. IsTask (length k.objects) u) (sym own) dead_valid;
+          lives = λ a. absurd (true≢false (sym a ∙ ap (λ (u : Task). u.alive) own));
+          prio = λ a. absurd (true≢false (sym a ∙ ap (λ (u : Task). u.alive) own));
+          each_object = v.each_object;
+          ready_others = λ p y d. count-left_other x (prio_of k x) k.ready p y d;
+          ready_own = λ p. gone p ∙ ap (λ (u : Task). one_if (is_ready u && (u.prio == p))) (sym own);
+          pend_others = λ o y d. refl;
+          pend_own = λ o. v.waiters o x ∙ ap (λ (u : Task). if waits_for_nothing u.waiting then 0 else count_of o u.objects) (sym own);
+          match_others = λ y d. refl;
+          match_own = subst (λ (u : Task). count_of x (matched k.matches) ≤ (if waits_for_nothing u.waiting then 0 else 1)) (sym own) (v.once_matched x);
+          match_words = v.match_words;
+          tick_signals = refl;
+          timer_signals = refl;
+          processing = refl;
+          in_callback = refl;
+          ticks = refl;
+          timer_count = refl;
+          lock = omega arith;
+          locked = λ h. absurd (true≢false (sym h ∙ quiet));
+        }
+
+-- how long the lists are
+stand_below : (b : Bool) → one_if b ≤ 1
+stand_below true = omega arith
+stand_below false = omega arith
+
+waiters_below : (b : Bool) (n : ℕ) → n ≤ 1 → (if b then 0 else n) ≤ 1
+waiters_below true n h = omega arith
+waiters_below false n h = h
+
+waiters_none : (b : Bool) (n : ℕ) → n ≡ 0 → (if b then 0 else n) ≡ 0
+waiters_none true n h = refl
+waiters_none false n h = h
+
+pub once-pend : (k : Kernel) → IsValid k → (o x : ℕ) → count_of x (list_at k.pend o) ≤ 1
+once-pend k v o x = subst (λ n. n ≤ 1) (sym (v.waiters o x)) (waiters_below (waits_for_nothing (task_at k x).waiting) (count_of o (task_at k x).objects) ((v.each_task x).different o))
+
+pub application-pend : (k : Kernel) → IsValid k → (o x : ℕ) → 60 ≤ x → count_of x (list_at k.pend o) ≡ 0
+application-pend k v o x h =
+    v.waiters o x ∙ waiters_none (waits_for_nothing (task_at k x).waiting) (count_of o (task_at k x).objects) (ap (λ os. count_of o os) (v.internal x h).0)
+
+pub length-pend : (k : Kernel) → IsValid k → (o : ℕ) → length (list_at k.pend o) ≤ 60
+length-pend k v o = length-le_by_counts 60 (list_at k.pend o) (once-pend k v o) (application-pend k v o)
+
+past : (ts : List Task) (x : ℕ) → length ts ≤ x → (get_or ts x no_task).alive ≡ false
+past ts x h = ap (λ (t : Task). t.alive) (get_or_past ts x no_task h)
+
+pub once-ready : (k : Kernel) → IsValid k → (p x : ℕ) → count_of x (list_at k.ready p) ≤ 1
+once-ready k v p x = subst (λ n. n ≤ 1) (sym (v.stands p x)) (stand_below (is_ready (task_at k x) && (prio_of k x == p)))
+
+pub inside-ready : (k : Kernel) → IsValid k → (p x : ℕ) → 63 ≤ x → count_of x (list_at k.ready p) ≡ 0
+inside-ready k v p x h = v.stands p x ∙ ap (λ a. one_if ((a && (waits_for_nothing (task_at k x).waiting && is_zero (task_at k x).suspended)) && (prio_of k x == p))) (dead (cases_lt 63 x))
+  where
+    dead : (63 < x) ⊎ (x ≤ 63) → (task_at k x).alive ≡ false
+    dead (inl l) = past k.tasks x (omega (arith, v.tasks))
+    dead (inr l) = let e : 63 ≡ x = omega arith in subst (λ y. (task_at k y).alive ≡ false) e v.handler
+
+pub length-ready : (k : Kernel) → IsValid k → (p : ℕ) → length (list_at k.ready p) ≤ 63
+length-ready k v p = length-le_by_counts 63 (list_at k.ready p) (once-ready k v p) (inside-ready k v p)
+
+once_none : (b : Bool) → (if b then 0 else 1) ≤ 1
+once_none true = omega arith
+once_none false = omega arith
+
+matched_none : (ms : List (ℕ × ℕ)) → All (λ m. (m.0 < 60) × IsWord m.1) ms → (x : ℕ) → 60 ≤ x → count_of x (matched ms) ≡ 0
+matched_none [] h x l = refl
+matched_none (m ∷ ms) h x l =
+    elim (eqb_tells m.0 x) as (λ _. one_if (m.0 == x) + count_of x (matched ms) ≡ 0) [
+      | inl e ↦ absurd (omega (arith, e.1, (All-head (λ m. (m.0 < 60) × IsWord m.1) m ms h).0))
+      | inr e ↦ omega (arith, ap one_if e.0, matched_none ms (All-tail (λ m. (m.0 < 60) × IsWord m.1) m ms h) x l)
+    ]
+
+length-matched : (ms : List (ℕ × ℕ)) → length (matched ms) ≡ length ms
+length-matched [] = refl
+length-matched (m ∷ ms) = ap (λ n. suc n) (length-matched ms)
+
+pub length-matches : (k : Kernel) → IsValid k → length k.matches ≤ 60
+length-matches k v =
+    let most : length (matched k.matches) ≤ 60 =
+    length-le_by_counts 60 (matched k.matches) (λ x. least (v.once_matched x) (once_none (waits_for_nothing (task_at k x).waiting))) (matched_none k.matches v.match_words) in
+    subst (λ n. n ≤ 60) (length-matched k.matches) most
+  where
+    least : {a b c : ℕ} → a ≤ b → b ≤ c → a ≤ c
+    least p q = omega arith
+
+-- the waiters of an object wait
+all_wait : (k : Kernel) (xs : List ℕ) → ((x : ℕ) → 0 < count_of x xs → (x < 60) × (waits_for_nothing (task_at k x).waiting ≡ false)) → ((x : ℕ) → count_of x xs ≤ 1) → AllWait k xs
+all_wait k [] h once = tt
+all_wait k (x ∷ xs) h once =
+    let one : one_if (x == x) ≡ 1 = ap one_if (self_equal x) in
+    let this = h x (omega (arith, one)) in
+    (this.0, this.1, omega (arith, one, once x), all_wait k xs (λ y l. h y (omega arith)) (λ y. omega (arith, once y)))
+
+pub AllWait-pend : (k : Kernel) → IsValid k → (o : ℕ) → AllWait k (list_at k.pend o)
+AllWait-pend k v o = all_wait k (list_at k.pend o) (λ x h. (below x h (cases_lt x 60), waits x (waits_for_nothing (task_at k x).waiting) refl h)) (once-pend k v o)
+  where
+    below : (x : ℕ) → 0 < count_of x (list_at k.pend o) → (x < 60) ⊎ (60 ≤ x) → x < 60
+    below x h (inl l) = l
+    below x h (inr l) = absurd (omega (arith, application-pend k v o x l))
+
+    waits : (x : ℕ) (b : Bool) → waits_for_nothing (task_at k x).waiting ≡ b → 0 < count_of x (list_at k.pend o) → b ≡ false
+    waits x false e h = refl
+    waits x true e h =
+        let none : count_of x (list_at k.pend o) ≡ 0 = v.waiters o x ∙ ap (λ b. if b then 0 else count_of o (task_at k x).objects) e in
+        absurd (omega arith)

@@ -1,0 +1,11 @@
+pub mod Laws
+pub mod CountLaws
+pub mod BlockLaws
+pub mod StepLaws
+pub mod ListLaws
+pub mod ValidLaws
+pub mod ChangeLaws
+pub mod CostLaws
+pub mod EffectLaws
+pub mod PostLaws
+pub mod SmallCases

@@ -1,0 +1,10 @@
+pub mod State
+pub mod Micro
+pub mod Effect
+pub mod Checks
+pub mod Semaphores
+pub mod Services
+pub mod FlagBits
+pub mod Finish
+pub mod Stop
+pub mod Valid
