@@ -1,0 +1,11 @@
+pub mod BlockFacts
+pub mod DecisionFacts
+pub mod DecisionLaws
+pub mod FinishFacts
+pub mod ListFacts
+pub mod ObjectFacts
+pub mod ServedFacts
+pub mod StartLaws
+pub mod StartLists
+pub mod StepCosts
+pub mod WaiterFacts

@@ -1,0 +1,10 @@
+pub mod KernelRecord
+pub mod Start
+pub mod ObjectView
+pub mod ListView
+pub mod TaskChanges
+pub mod Served
+pub mod KernelView
+pub mod Works
+pub mod WorkView
+pub mod Decisions

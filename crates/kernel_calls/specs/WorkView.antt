@@ -1,0 +1,14 @@
+-- What the fields of a work mean.
+use Rattle.kernel_calls.specs.Works.{WorkRecord}
+use Rattle.kernel_calls.specs.declared.work.Work.TheInside.{Inside}
+
+abbrev pub work_of : Inside → WorkRecord
+work_of w =
+    record {
+      caller = w.caller.0;
+      request = w.request;
+      compared = w.compared.0;
+      head = w.head.0;
+      done = w.done;
+      left = w.left;
+    }

@@ -1,0 +1,23 @@
+-- The tasks at the start.
+use Rattle.std.proofs.Common.{◌≡◌, ◌-◌, ◌≤◌, List, [], ◌∷◌, ◌++◌, length, map, ap, ◌∙◌, append_assoc}
+use Rattle.std.specs.Prelude.{replicate}
+use Rattle.kern_base.specs.declared.outcomes.Waiting.TheVariants.{No, Signal}
+use Rattle.kern_model.specs.State.{Task, no_task}
+use Rattle.rv32_exec.specs.Registers.{Registers}
+use Rattle.app_image.specs.Image.{ImageRecord}
+use Rattle.app_image.specs.declared.records.TaskDef.{TaskDef}
+use Rattle.app_image.specs.declared.settings.Config.{Config}
+use Rattle.tcb_pool.specs.TaskView.{no_registers}
+use Rattle.tcb_pool.specs.Start.{start_tasks, start_registers, living_task, application_task, entry_registers}
+use Rattle.tcb_pool.proofs.PlaceFacts.{replicate-four}
+
+pub tasks-started : (i : ImageRecord) (c : Config) (ds : List TaskDef) (ts : List Task) (b x y z : Task) → ts ≡ map (application_task c.quanta) ds ++ replicate (60 - length ds) b ++ (x ∷ y ∷ z ∷ b ∷ []) → ds ≡ i.tasks → c ≡ i.config → b ≡ no_task → x ≡ living_task c.tick_prio c.quanta 0 Signal → y ≡ living_task c.tmr_prio c.quanta 0 Signal → z ≡ living_task 63 c.quanta 0 No → ts ≡ start_tasks i
+tasks-started i c ds ts b x y z e d s eb ex ey ez = cc
+
+pub registers-started : (i : ImageRecord) (ds : List TaskDef) (ts : List Registers) (b x y z : Registers) → length ds ≤ 60 → ts ≡ map entry_registers ds ++ replicate (60 - length ds) b ++ (x ∷ y ∷ z ∷ b ∷ []) → ds ≡ i.tasks → b ≡ no_registers → x ≡ no_registers → y ≡ no_registers → z ≡ no_registers → ts ≡ start_registers i
+registers-started i ds ts b x y z h e d eb ex ey ez =
+    let all : ts ≡ map entry_registers ds ++ replicate (60 - length ds) no_registers ++ (no_registers ∷ no_registers ∷ no_registers ∷ no_registers ∷ []) = cc in
+    all
+    ∙ append_assoc (map entry_registers ds) (replicate (60 - length ds) no_registers) (no_registers ∷ no_registers ∷ no_registers ∷ no_registers ∷ [])
+    ∙ ap (λ l. map entry_registers ds ++ l) (replicate-four (length ds) no_registers h)
+    ∙ ap (λ l. map entry_registers l ++ replicate (64 - length l) no_registers) d

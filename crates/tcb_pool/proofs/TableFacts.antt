@@ -1,0 +1,19 @@
+-- Records inside a table.
+use Rattle.std.proofs.Common.{◌≡◌, ℕ, List, get_or, ap, ◌∙◌, map, subst}
+use Rattle.std.specs.Prelude.{slice_set}
+use Rattle.std.proofs.lemmas.List.{map-set}
+use Rattle.std.proofs.Math.Seq.{map-set_same}
+use Rattle.tcb_pool.specs.TaskTable.{TaskTable}
+use Rattle.tcb_pool.specs.TaskView.{task_of}
+use Rattle.tcb_pool.specs.declared.records.Tcb.{Tcb}
+
+-- what records mean
+abbrev pub table_in : List Tcb → TaskTable
+table_in xs = record { tasks = map task_of xs; registers = map (λ t. t.regs) xs }
+
+-- a record that differs in its registers alone
+pub table-with_registers : (xs : List Tcb) (i : ℕ) (v d : Tcb) (old : TaskTable) → table_in xs ≡ old → task_of v ≡ task_of (get_or xs i d) → table_in (slice_set xs i v) ≡ record old { registers = slice_set old.registers i v.regs }
+table-with_registers xs i v d old view same =
+    subst (λ (o : TaskTable). table_in (slice_set xs i v) ≡ record o { registers = slice_set o.registers i v.regs }) view
+    (ap (λ ts. let t : TaskTable = record { tasks = ts; registers = map (λ t. t.regs) (slice_set xs i v) } in t) (map-set_same task_of xs i v d same)
+    ∙ ap (λ rs. let t : TaskTable = record { tasks = map task_of xs; registers = rs } in t) (map-set (λ (t : Tcb). t.regs) xs i v))

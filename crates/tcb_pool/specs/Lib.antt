@@ -1,0 +1,4 @@
+pub mod TaskTable
+pub mod TaskView
+pub mod TableView
+pub mod Start

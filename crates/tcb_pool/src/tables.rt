@@ -1,0 +1,168 @@
+// The records of all tasks.
+
+ghost use Rattle.std.specs.Prelude.{◌≡◌, ◌<◌, ◌≤◌, ◌++◌, length, map, drop, All, slice_set, slice_index_or};
+ghost use Rattle.kern_model.specs.State.{no_task};
+ghost use Rattle.tcb_pool.specs.TaskView.{task_of, no_registers};
+ghost use Rattle.tcb_pool.specs.Start.{start_tasks, start_registers, living_task, application_task, entry_registers};
+
+use crate::Tcb;
+use app_image::{Image, TaskDef};
+use kern_base::{Prio, TaskId, Waiting};
+use rv32_exec::Regs;
+use std::marker::Model;
+
+/// The address to which a task, an interrupt routine or a callback returns.
+pub const LEAVE: u32 = 0xFFFF_FFF0;
+
+/// The 64 task records, by task number. Contracts see the tasks of the kernel state and their
+/// registers.
+#[derive(Drop)]
+pub struct Tcbs {
+    records: [Tcb; 64],
+}
+
+impl Model for Tcbs {
+    ghost use Rattle.tcb_pool.specs.TaskTable.{TaskTable};
+
+    ghost Value = { TaskTable };
+
+    ghost use Rattle.tcb_pool.specs.TableView.{table_of};
+
+    ghost view = { table_of };
+}
+
+// The record of a number without a task.
+fn blank() -> Tcb
+    ensures task { task_of result ≡ no_task }
+    ensures registers { result.regs ≡ no_registers }
+{
+    Tcb {
+        base: Prio(63),
+        prio: Prio(63),
+        wait: Waiting::No,
+        ids: [0; 8],
+        n_ids: 0,
+        mask: 0,
+        opt: 0,
+        table: 0,
+        suspended: 0,
+        alive: false,
+        count: 0,
+        limit: 0,
+        quantum: 0,
+        full: 0,
+        regs: Regs::new(),
+        result: None,
+    }
+}
+
+// The record of a living task at the start.
+fn living(prio: u8, quantum: u32, limit: u32, wait: Waiting, regs: Regs) -> Tcb
+    ensures task { task_of result ≡ living_task prio quantum limit wait }
+    ensures registers { result.regs ≡ regs }
+{
+    Tcb {
+        base: Prio(prio),
+        prio: Prio(prio),
+        wait,
+        ids: [0; 8],
+        n_ids: 0,
+        mask: 0,
+        opt: 0,
+        table: 0,
+        suspended: 0,
+        alive: true,
+        count: 0,
+        limit,
+        quantum,
+        full: quantum,
+        regs,
+        result: None,
+    }
+}
+
+// The registers of an application task at the start.
+fn entry_regs(def: &TaskDef) -> Regs
+    ensures { result ≡ entry_registers def.now }
+{
+    let mut regs = Regs::new();
+    regs.set_pc(def.entry);
+    regs.set(2, def.sp);
+    regs.set(1, LEAVE);
+    regs
+}
+
+// The record of an application task at the start.
+fn application(def: &TaskDef, quanta: u32) -> Tcb
+    requires { def.now.prio < 256 }
+    ensures task { task_of result ≡ application_task quanta def.now }
+    ensures registers { result.regs ≡ entry_registers def.now }
+{
+    let quantum = if def.quanta == 0 { quanta } else { def.quanta };
+    living(
+        def.prio as u8,
+        quantum,
+        def.qsize,
+        Waiting::No,
+        entry_regs(def),
+    )
+}
+
+// Writes the records of the application tasks to the front.
+fn place(records: &mut [Tcb], defs: &[TaskDef], quanta: u32)
+    requires room { length defs.now ≤ length records.old }
+    requires small { All (λ d. d.prio < 256) defs.now }
+    ensures tasks { map task_of records.new ≡ map (application_task quanta) defs.now ++ drop (length defs.now) (map task_of records.old) }
+    ensures registers { map (λ t. t.regs) records.new ≡ map entry_registers defs.now ++ drop (length defs.now) (map (λ t. t.regs) records.old) }
+{
+    for (index, def) in defs.iter().enumerate() {
+        records[index] = application(def, quanta);
+    }
+}
+
+impl Tcbs {
+    /// The records at the start: the application tasks in declared order, then numbers without a
+    /// task, and from 60 on the tick task, the timer task, the idle task and the handler.
+    pub fn new(image: &Image) -> Tcbs
+        ensures tasks { result.tasks ≡ start_tasks image.now }
+        ensures registers { result.registers ≡ start_registers image.now }
+    {
+        let config = image.config();
+        let none = Regs::new();
+        let quanta = config.quanta;
+        let mut records = [blank(); 64];
+        records[60] = living(config.tick_prio as u8, quanta, 0, Waiting::Signal, none);
+        records[61] = living(config.tmr_prio as u8, quanta, 0, Waiting::Signal, none);
+        records[62] = living(63, quanta, 0, Waiting::No, none);
+        place(&mut records, image.tasks(), quanta);
+        Tcbs { records }
+    }
+
+    /// The record of a task.
+    pub fn get(&self, task: TaskId) -> &Tcb
+        requires { task.0 < 64 }
+        ensures task { task_of result.now ≡ slice_index_or self.now.tasks task.0 no_task }
+        ensures registers { result.now.regs ≡ slice_index_or self.now.registers task.0 no_registers }
+    {
+        &self.records[task.0 as usize]
+    }
+
+    /// Writes the record of a task.
+    pub fn set(&mut self, task: TaskId, tcb: Tcb)
+        requires { task.0 < 64 }
+        ensures tasks { self.new.tasks ≡ slice_set self.old.tasks task.0 (task_of tcb) }
+        ensures registers { self.new.registers ≡ slice_set self.old.registers task.0 tcb.regs }
+    {
+        self.records[task.0 as usize] = tcb;
+    }
+
+    /// Writes the registers of a task, and changes nothing else.
+    pub fn set_regs(&mut self, task: TaskId, regs: Regs)
+        requires { task.0 < 64 }
+        ensures { self.new ≡ record self.old { registers = slice_set self.old.registers task.0 regs } }
+    {
+        let mut tcb = self.records[task.0 as usize];
+        tcb.regs = regs;
+        self.records[task.0 as usize] = tcb;
+    }
+}
