@@ -1,0 +1,48 @@
+-- What an answer changes in the kernel and the registers.
+use Rattle.std.specs.Prelude.{ℕ, Option, Some, None, slice_index_or, slice_set}
+use Rattle.kern_base.specs.declared.services.Service.{Service}
+use Rattle.kern_base.specs.declared.outcomes.Answer.{Answer}
+use Rattle.kern_base.specs.declared.outcomes.Finished.{Finished}
+use Rattle.kern_base.specs.declared.outcomes.Outcome.{Outcome}
+use Rattle.kern_base.specs.declared.outcomes.Outcome.TheVariants.{Answered, Waits}
+use Rattle.kern_model.specs.State.{task_at}
+use Rattle.kern_model.specs.Finish.{finished}
+use Rattle.tcb_pool.specs.TaskView.{no_registers}
+use Rattle.kernel_calls.specs.KernelRecord.{KernelRecord, with_state}
+use Rattle.machine_core.specs.declared.events.What.{What}
+use Rattle.machine_core.specs.declared.events.What.TheVariants.{Quiet, Wait}
+use Rattle.machine_core.specs.Rules.{with_answer, returned, task_id}
+
+-- the registers of x have the answer
+abbrev pub answered_kernel : KernelRecord → ℕ → Service → Answer → KernelRecord
+answered_kernel k x service a =
+    record k { registers = slice_set k.registers x (with_answer service a (slice_index_or k.registers x no_registers)) }
+
+-- the result that waits, if one does, is read
+abbrev pub finished_by : Option Finished → KernelRecord → ℕ → KernelRecord
+finished_by None k x = k
+finished_by (Some f) k x = answered_kernel (with_state k (finished x k.state)) x f.service f.answer
+
+-- task x has read the result that waits for it
+abbrev pub finished_kernel : KernelRecord → ℕ → KernelRecord
+finished_kernel k x = finished_by (task_at k.state x).answered k x
+
+-- what is told of a result
+abbrev pub line_of : Option Finished → ℕ → What
+line_of None x = Quiet
+line_of (Some f) x = returned x f.service f.answer
+
+-- what is told of a task that reads its result
+abbrev pub finished_line : KernelRecord → ℕ → What
+finished_line k x = line_of (task_at k.state x).answered x
+
+-- the end of a whole step of x: an answer goes to its registers
+abbrev pub ended_kernel : KernelRecord → ℕ → Service → Outcome → KernelRecord
+ended_kernel k x service (Answered a taken) = answered_kernel k x service a
+ended_kernel k x service outcome = k
+
+-- what is told of the end
+abbrev pub ended_line : ℕ → Service → Outcome → What
+ended_line x service (Answered a taken) = returned x service a
+ended_line x service Waits = Wait (task_id x) service
+ended_line x service outcome = Quiet

@@ -1,0 +1,98 @@
+// What passes between a task's registers and the kernel: the request of a call, and its answer.
+
+ghost use Rattle.std.specs.Prelude.{◌≡◌, ◌<◌, ◌≤◌, true, slice_set, slice_index_or};
+ghost use Rattle.kern_model.specs.State.{task_at};
+ghost use Rattle.kern_model.specs.Valid.{has_result};
+ghost use Rattle.kern_model.specs.Finish.{finished};
+ghost use Rattle.tcb_pool.specs.TaskView.{no_registers};
+ghost use Rattle.rv32_exec.specs.Registers.{read};
+ghost use Rattle.machine_core.specs.Rules.{request_of, with_answer, returned, called, size_of, size_or_zero};
+ghost use Rattle.machine_core.specs.AnswerView.{answered_kernel, finished_kernel, finished_line};
+
+use crate::What;
+use kern_base::{Answer, Request, Service, TaskId};
+use kernel_calls::Kernel;
+use rv32_exec::Regs;
+
+const A0: u8 = 10;
+
+const A7: u8 = 17;
+
+// The request of a call: the number of the service in a7, the arguments in a0 to a3.
+pub(crate) fn request_in(regs: &Regs) -> Request
+    ensures { result ≡ request_of regs.now }
+{
+    Request {
+        service: Service::of(regs.get(A7)),
+        args: [
+            regs.get(A0),
+            regs.get(A0 + 1),
+            regs.get(A0 + 2),
+            regs.get(A0 + 3),
+        ],
+        ids: [0; 8],
+        n_ids: 0,
+        table: false,
+    }
+}
+
+// The event of a call, with the arguments of its service.
+pub(crate) fn call_line(task: TaskId, request: &Request) -> What
+    ensures { result ≡ called task.0 request.now }
+{
+    let n_args = request.service.args();
+    let mut args = [0; 4];
+    args[..n_args].copy_from_slice(&request.args[..n_args]);
+    What::Call {
+        task,
+        service: request.service,
+        args,
+        n_args: n_args as u8,
+    }
+}
+
+// The size of a message, of the calls that take one message.
+fn size_in(service: Service, answer: Answer) -> Option<u32>
+    ensures { result ≡ size_of service answer }
+{
+    match service {
+        Service::QPend | Service::TaskQPend => Some(answer.extra),
+        _ => None,
+    }
+}
+
+// Writes the answer of a call into the registers of its task.
+pub(crate) fn answer(kernel: &mut Kernel, task: TaskId, service: Service, answer: Answer) -> What
+    requires { task.0 < 64 }
+    ensures kernel { kernel.new ≡ answered_kernel kernel.old task.0 service answer }
+    ensures line { result ≡ returned task.0 service answer }
+{
+    let mut regs = kernel.tcb(task).regs;
+    regs.set(A0, answer.err.number());
+    regs.set(A0 + 1, answer.value);
+    let size = size_in(service, answer);
+    if let Some(size) = size {
+        regs.set(A0 + 2, size);
+    }
+    kernel.set_regs(task, regs);
+    What::Ret {
+        task,
+        service,
+        err: answer.err,
+        value: answer.value,
+        size: size.unwrap_or(0),
+        tab: [None; 8],
+        n_tab: 0,
+    }
+}
+
+// A task reads the result that waits for it.
+pub(crate) fn finish(kernel: &mut Kernel, task: TaskId) -> What
+    requires inside { task.0 < 64 }
+    requires waits { has_result (task_at kernel.old.state task.0).answered ≡ true }
+    ensures kernel { kernel.new ≡ finished_kernel kernel.old task.0 }
+    ensures line { result ≡ finished_line kernel.old task.0 }
+{
+    let finished = kernel.finish(task);
+    answer(kernel, task, finished.service, finished.answer)
+}

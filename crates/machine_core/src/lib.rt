@@ -1,0 +1,10 @@
+//! The machine: tasks, the kernel and memory, and what happens next. One call of [`Machine::step`] is one
+//! event.
+#![tactic(auto)]
+
+mod answers;
+mod events;
+mod machine;
+
+pub use events::{Event, What};
+pub use machine::Machine;
