@@ -1,0 +1,60 @@
+// A line while it is made: words, each behind a blank.
+
+ghost use Rattle.std.specs.Prelude.{◌≡◌, ◌++◌, ◌+◌, ◌≤◌, [], ◌∷◌, length, decimal};
+ghost use Rattle.arrayvec.specs.ArrayVec.{array_vec_len};
+ghost use Rattle.machine_core.specs.Text.{spaced};
+
+use arrayvec::ArrayVec;
+use itoa::Buffer;
+
+/// The room for what one event prints: its own line and its switch line.
+pub type Line = ArrayVec<u8, 512>;
+
+/// Appends these bytes.
+pub fn push_bytes(line: &mut Line, bytes: &[u8])
+    requires room { array_vec_len line.old + length bytes.now ≤ 512 }
+    ensures items { line.new.items ≡ line.old.items ++ bytes.now }
+    ensures len { array_vec_len line.new ≡ array_vec_len line.old + length bytes.now }
+{
+    line.try_extend_from_slice(bytes).unwrap();
+}
+
+/// Appends a blank and a word.
+pub fn push_word(line: &mut Line, word: &[u8])
+    requires room { array_vec_len line.old + length word.now + 1 ≤ 512 }
+    ensures items { line.new.items ≡ line.old.items ++ 32 ∷ word.now }
+    ensures len { array_vec_len line.new ≡ array_vec_len line.old + length word.now + 1 }
+{
+    line.push(b' ');
+    push_bytes(line, word);
+}
+
+/// Appends a number, which has at most 10 digits.
+pub fn push_digits(line: &mut Line, number: u32)
+    requires room { array_vec_len line.old + 10 ≤ 512 }
+    ensures items { line.new.items ≡ line.old.items ++ decimal number }
+    ensures len { array_vec_len line.new ≤ array_vec_len line.old + 10 }
+{
+    let mut buffer = Buffer::new();
+    push_bytes(line, buffer.format(number).as_bytes());
+}
+
+/// Appends a blank and a number.
+pub fn push_number(line: &mut Line, number: u32)
+    requires room { array_vec_len line.old + 11 ≤ 512 }
+    ensures items { line.new.items ≡ line.old.items ++ 32 ∷ decimal number }
+    ensures len { array_vec_len line.new ≤ array_vec_len line.old + 11 }
+{
+    line.push(b' ');
+    push_digits(line, number);
+}
+
+/// Appends a count of raw steps, which has at most 20 digits.
+pub fn push_count(line: &mut Line, count: u64)
+    requires room { array_vec_len line.old + 20 ≤ 512 }
+    ensures items { line.new.items ≡ line.old.items ++ decimal count }
+    ensures len { array_vec_len line.new ≤ array_vec_len line.old + 20 }
+{
+    let mut buffer = Buffer::new();
+    push_bytes(line, buffer.format(count).as_bytes());
+}
