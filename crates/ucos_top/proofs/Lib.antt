@@ -1,0 +1,4 @@
+pub mod Digits
+pub mod LineLemmas
+pub mod MadeLemmas
+pub mod TopLemmas

@@ -1,0 +1,28 @@
+-- How an ending is known from its parts.
+use Rattle.std.proofs.Common.{◌≡◌, ◌≤◌, ℕ, List, length, Option, Some, None, Result, Ok, Err, IfSome, subst, inl, inr, nat_lt, false}
+use Rattle.std.proofs.lemmas.Bool.{le-ltb}
+use Rattle.outside.specs.Causes.{HasCause}
+use Rattle.outside.specs.Written.{WritesPiece}
+use Rattle.ucos_top.specs.declared.TheConstants.{INPUT_LIMIT}
+use Rattle.ucos_top.specs.declared.words.Command.{Command}
+use Rattle.ucos_top.specs.Answer.{Answer, case_answer, command_answer, defined_of}
+use Rattle.ucos_top.specs.Case.{case_of}
+use Rattle.ucos_top.specs.Told.{AppendsUnlessRose}
+
+-- a line was written, or a prefix of it where the write failed
+pub line_written : {T E : Type 0} (r : Result T E) (old new : Option (List ℕ)) (before now : ℕ) (line : List ℕ) → WritesPiece old new r line → HasCause before now r → AppendsUnlessRose old new before now line
+line_written (Ok x) old new before now line p cause = inl p
+line_written (Err x) old new before now line p cause = inr (cause.failed, p)
+
+-- what holds of the answer on the bytes that were read holds of the defined answer
+pub told_answer : (words : Option Command) (command : Command) (input : List ℕ) (left : Option (List ℕ)) (P : Answer → Type 0) → words ≡ Some command
+    → length input ≤ INPUT_LIMIT → IfSome left (λ b. input ≡ b) → P (case_answer command (case_of input)) → IfSome (defined_of words left) P
+told_answer words command input None P e short same p = rw e tt
+told_answer words command input (Some bytes) P e short same p =
+    let fits : nat_lt INPUT_LIMIT (length bytes) ≡ false = le-ltb INPUT_LIMIT (length bytes) (subst (λ l. length l ≤ INPUT_LIMIT) same short) in
+    rw (e, fits) (subst (λ l. P (case_answer command (case_of l))) same p)
+
+-- the defined answer is the answer on the bytes that the source told
+pub answer_told : (command : Option Command) (input : List ℕ) (P : Answer → Type 0) → IfSome (defined_of command (Some input)) P → P (command_answer command input)
+answer_told None input P p = p
+answer_told (Some command) input P p = p

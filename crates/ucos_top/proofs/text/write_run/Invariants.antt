@@ -1,0 +1,18 @@
+use Rattle.std.proofs.Common.{◌≡◌, ◌≤◌, List, ℕ}
+use Rattle.std.specs.Io.KnownBytes.{Appends}
+use Rattle.machine_core.specs.Run.{events_left}
+use Rattle.machine_core.proofs.RunLaws.{HasPrinted}
+use Rattle.ucos_top.proofs.text.write_run.Given as goal
+
+-- what was printed so far is written, and the run goes on from this machine
+abbrev pub invariant-running : goal.invariant-running
+invariant-running g l = record {
+  written : (front : List ℕ) × Appends (g.K.Sink.held l.fn.sink) (g.K.Sink.held l.sink) front × HasPrinted l.image l.count front l.machine;
+  within : l.machine.t ≤ l.count;
+  bound : l.count ≤ 1000000;
+  later : g.K.Sink.faults l.fn.sink ≤ g.K.Sink.faults l.sink;
+}
+
+-- the events that may still come
+abbrev pub decreases-running : goal.decreases-running
+decreases-running g l = events_left l.count l.machine

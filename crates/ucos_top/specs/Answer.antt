@@ -1,0 +1,61 @@
+-- The defined answer of a command on an input: a status, and the bytes to write.
+use Rattle.std.specs.Prelude.{ℕ, List, [], length, nat_lt, Option, None, Some, if◌then◌else◌, codes}
+use Rattle.std.specs.Option.{option_map}
+use Rattle.ucos_top.specs.declared.TheConstants.{INPUT_LIMIT}
+use Rattle.ucos_top.specs.declared.Status.{Status}
+use Rattle.ucos_top.specs.declared.Status.TheVariants as status
+use Rattle.ucos_top.specs.declared.words.Command.{Command}
+use Rattle.ucos_top.specs.declared.words.Command.TheVariants.{Run}
+use Rattle.app_image.specs.Image.{ImageRecord}
+use Rattle.machine_core.specs.Run.{run_text}
+use Rattle.ucos_top.specs.Case.{case_of}
+use Rattle.ucos_top.specs.Words.{command_of}
+
+pub record Answer : Type 0 where
+  pub status : Status
+  pub text : List ℕ
+
+-- the printed run of a case to so many task steps
+unfoldable pub printed : ImageRecord → ℕ → List ℕ
+printed image count = run_text image count
+
+-- the line that refuses an input
+unfoldable pub refusal_line : List ℕ
+refusal_line = codes "refused 0 X1\n"
+
+-- of a command on the case that was read
+abbrev pub case_answer : Command → Option ImageRecord → Answer
+case_answer command None = record { status = status.Refused; text = refusal_line }
+case_answer (Run count) (Some image) = record { status = status.Done; text = printed image count }
+
+-- of a command on an input
+abbrev pub command_answer : Option Command → List ℕ → Answer
+command_answer None input = record { status = status.Usage; text = [] }
+command_answer (Some command) input = if nat_lt INPUT_LIMIT (length input) then record { status = status.TooLong; text = [] } else case_answer command (case_of input)
+
+-- of the words on an input
+abbrev pub answer : List (List ℕ) → List ℕ → Answer
+answer words input = command_answer (command_of words) input
+
+-- the command reads the source
+abbrev pub Reads : Option Command → Type 0
+Reads None = ⊥
+Reads (Some command) = Unit {0}
+
+-- the command takes memory
+abbrev pub TakesMemory : Option Command → Type 0
+TakesMemory None = ⊥
+TakesMemory (Some command) = Unit {0}
+
+-- the input that the answer speaks of: what the source tells, or nothing where nothing is read
+abbrev pub known_input : Option Command → Option (List ℕ) → Option (List ℕ)
+known_input None left = Some []
+known_input (Some command) left = left
+
+-- the defined answer of a command, where its input is known
+abbrev pub defined_of : Option Command → Option (List ℕ) → Option Answer
+defined_of command left = option_map (command_answer command) (known_input command left)
+
+-- the defined answer of the words, where their input is known
+abbrev pub defined : List (List ℕ) → Option (List ℕ) → Option Answer
+defined words left = defined_of (command_of words) left

@@ -1,0 +1,9 @@
+pub mod Registers
+pub mod Lines
+pub mod Program
+pub mod Case
+pub mod Answers
+pub mod Words
+pub mod Limit
+pub mod Answer
+pub mod Told

@@ -1,0 +1,51 @@
+-- What a run of the program says where its source and its sink tell their bytes.
+use Rattle.std.specs.Prelude.{◌≡◌, ℕ, List, [], ◌⊎◌, Option, Some, IfSome}
+use Rattle.std.specs.Io.KnownBytes.{Appends}
+use Rattle.outside.specs.Causes.{Rose}
+use Rattle.outside.specs.Written.{AppendsPrefix}
+use Rattle.ucos_top.specs.declared.Status.{Status}
+use Rattle.ucos_top.specs.declared.Status.TheVariants as status
+
+-- where the source told its bytes, all of them are read
+abbrev pub ReadWhole : Option (List ℕ) → Option (List ℕ) → Type 0
+ReadWhole before now = IfSome before (λ _. now ≡ Some [])
+
+-- the text was appended, or a prefix of it where the count of faults rose
+abbrev pub AppendsUnlessRose : Option (List ℕ) → Option (List ℕ) → ℕ → ℕ → List ℕ → Type 0
+AppendsUnlessRose old new before now text = Appends old new text ⊎ (Rose before now × AppendsPrefix old new text)
+
+-- the status, or that memory ran out
+abbrev pub OrNoMemory : Status → Status → Type 0
+OrNoMemory result defined = (result ≡ defined) ⊎ (result ≡ status.NoMemory)
+
+-- the statuses with which the whole defined text is written
+abbrev pub IsWhole : Status → Type 0
+IsWhole status.Done = Unit {0}
+IsWhole status.Usage = Unit {0}
+IsWhole status.TooLong = Unit {0}
+IsWhole _ = ⊥
+
+-- the statuses with which nothing is written
+abbrev pub IsSilent : Status → Type 0
+IsSilent status.Usage = Unit {0}
+IsSilent status.ReadFault = Unit {0}
+IsSilent status.NoMemory = Unit {0}
+IsSilent status.TooLong = Unit {0}
+IsSilent _ = ⊥
+
+-- the statuses of a run that writes its whole text
+abbrev pub IsRun : Status → Type 0
+IsRun status.Done = Unit {0}
+IsRun _ = ⊥
+
+-- the statuses with which a command that reads has read its whole input
+abbrev pub IsAfterReading : Status → Type 0
+IsAfterReading status.Done = Unit {0}
+IsAfterReading status.Refused = Unit {0}
+IsAfterReading _ = ⊥
+
+-- the statuses that come before the first write of a run: no fault of the sink hides them
+abbrev pub IsEarly : Status → Type 0
+IsEarly status.TooLong = Unit {0}
+IsEarly status.Refused = Unit {0}
+IsEarly _ = ⊥

@@ -1,0 +1,40 @@
+-- Which command the words are, if any.
+use Rattle.std.specs.Prelude.{ℕ, ◌+◌, ◌-◌, ◌*◌, List, [], ◌∷◌, length, Bool, ◌&&◌, nat_le, Option, None, Some, if◌then◌else◌, codes, map}
+use Rattle.std.specs.List.{list_all}
+use Rattle.std.specs.Char.{is_ascii_digit}
+use Rattle.std.specs.Str.{bytes_eq}
+use Rattle.std.specs.String.{string_bytes}
+use Rattle.std.specs.declared.string.String.{String}
+use Rattle.std.specs.declared.alloc.Global.{Global}
+use Rattle.ucos_top.specs.declared.TheConstants.{COUNT_LIMIT}
+use Rattle.ucos_top.specs.declared.words.Command.{Command}
+use Rattle.ucos_top.specs.declared.words.Command.TheVariants.{Run}
+
+-- the value of decimal digits behind a front of this value
+abbrev pub value_of : ℕ → List ℕ → ℕ
+value_of front [] = front
+value_of front (digit ∷ digits) = value_of (front * 10 + (digit - 48)) digits
+
+-- one to seven decimal digits, of a value of at most 1,000,000
+abbrev pub is_count : List ℕ → Bool
+is_count word = nat_le 1 (length word) && (nat_le (length word) 7 && (list_all is_ascii_digit word && nat_le (value_of 0 word) COUNT_LIMIT))
+
+-- the number of task steps that a word asks for
+abbrev pub count_word : List ℕ → Option ℕ
+count_word word = if is_count word then Some (value_of 0 word) else None
+
+abbrev pub run_command : Option ℕ → Option Command
+run_command None = None
+run_command (Some count) = Some (Run count)
+
+abbrev pub three_words : List ℕ → List ℕ → List ℕ → Option Command
+three_words first method count = if bytes_eq first (codes "run") && bytes_eq method (codes "direct") then run_command (count_word count) else None
+
+-- the command that the words are: `run direct N`
+abbrev pub command_of : List (List ℕ) → Option Command
+command_of (first ∷ method ∷ count ∷ []) = three_words first method count
+command_of _ = None
+
+-- the bytes of each word
+abbrev pub texts : List (String Global) → List (List ℕ)
+texts words = map string_bytes words

@@ -1,0 +1,143 @@
+ghost use Rattle.std.specs.Prelude.{◌≡◌, ◌≢◌, ◌⊎◌, ◌≤◌, ◌↔◌, length, IfOk, IsErrOf, IfSome, IsNone, None, Some};
+ghost use Rattle.std.specs.Io.KnownBytes.{Appends};
+ghost use Rattle.outside.specs.Causes.{Rose, DidNotRise};
+ghost use Rattle.outside.specs.Written.{AppendsPrefix};
+ghost use Rattle.ucos_top.specs.Words.{command_of, texts};
+ghost use Rattle.ucos_top.specs.Answer.{case_answer, defined, refusal_line, Reads, TakesMemory};
+ghost use Rattle.ucos_top.specs.Case.{case_of};
+ghost use Rattle.ucos_top.specs.Limit.{IsWithinLimit};
+ghost use Rattle.ucos_top.specs.Told.{ReadWhole, AppendsUnlessRose, OrNoMemory, IsWhole, IsSilent, IsRun, IsAfterReading, IsEarly};
+
+use crate::case::read_case;
+use crate::reading::{InputError, read_input};
+use crate::text::write_run;
+use crate::words::{Command, command_of};
+use crate::{CaseError, INPUT_LIMIT, Status};
+use app_image::Image;
+use machine_core::Machine;
+use outside::{Sink, Source};
+use std::alloc::Global;
+
+/// Does what the words ask for, and answers how it ended. The defined answer of the words is known
+/// where the source tells its bytes, or the command reads none.
+pub fn ucos_main<S: Source, K: Sink>(
+    alloc: Global,
+    words: &[String],
+    source: &mut S,
+    sink: &mut K,
+) -> Status
+    // The counts of faults never fall.
+    ensures source_count { S.faults source.old ≤ S.faults source.new }
+    ensures sink_count { K.faults sink.old ≤ K.faults sink.new }
+
+    // Usage comes exactly where the words are no command.
+    ensures usage { (result ≡ Status.Usage) ↔ IsNone (command_of (texts words.now)) }
+
+    // With these four nothing is written.
+    ensures silent { IsSilent result → sink.new ≡ sink.old }
+
+    // What reads nothing leaves the source as it was.
+    ensures source_still { (Reads (command_of (texts words.now)) → ⊥) → source.new ≡ source.old }
+
+    // The headline: the status is the defined one, and exactly the defined text is written.
+    ensures whole { IsWhole result → IfSome (defined (texts words.now) (S.left source.old)) (λ a. result ≡ a.status) }
+    ensures whole_text { IsWhole result → IfSome (defined (texts words.now) (S.left source.old))
+        (λ a. Appends (K.held sink.old) (K.held sink.new) a.text) }
+
+    // A refused case: its line is written, or a prefix of it where the sink's count rose.
+    ensures refused { result ≡ Status.Refused → IfSome (defined (texts words.now) (S.left source.old)) (λ a. a.status ≡ Status.Refused) }
+    ensures refused_text { result ≡ Status.Refused → IfSome (defined (texts words.now) (S.left source.old))
+        (λ a. AppendsUnlessRose (K.held sink.old) (K.held sink.new) (K.faults sink.old) (K.faults sink.new) a.text) }
+
+    // A fault of reading has its cause.
+    ensures read_fault { result ≡ Status.ReadFault → Rose (S.faults source.old) (S.faults source.new) }
+    ensures read_fault_reads { result ≡ Status.ReadFault → Reads (command_of (texts words.now)) }
+
+    // A fault of writing has its cause, comes in a run alone, and leaves a prefix of the text.
+    ensures write_fault { result ≡ Status.WriteFault → Rose (K.faults sink.old) (K.faults sink.new) }
+    ensures write_fault_run { result ≡ Status.WriteFault → IfSome (defined (texts words.now) (S.left source.old)) (λ a. IsRun a.status) }
+    ensures write_fault_text { result ≡ Status.WriteFault → IfSome (defined (texts words.now) (S.left source.old))
+        (λ a. AppendsPrefix (K.held sink.old) (K.held sink.new) a.text) }
+
+    // Want of memory comes only to a command that takes memory.
+    ensures no_memory { result ≡ Status.NoMemory → TakesMemory (command_of (texts words.now)) }
+
+    // The input of a command that reads is read to its end.
+    ensures read_whole { IsAfterReading result → Reads (command_of (texts words.now)) → ReadWhole (S.left source.old) (S.left source.new) }
+
+    // The defined status comes, or want of memory, where the sink's count did not rise, nor the
+    // source's where it is read.
+    ensures complete { IfSome (defined (texts words.now) (S.left source.old)) (λ a.
+        (Reads (command_of (texts words.now)) → DidNotRise (S.faults source.old) (S.faults source.new))
+        → DidNotRise (K.faults sink.old) (K.faults sink.new) → OrNoMemory result a.status) }
+
+    // A status that comes before the first write of a run is hidden by no fault of the sink.
+    ensures early { IfSome (defined (texts words.now) (S.left source.old)) (λ a.
+        IsEarly a.status → DidNotRise (S.faults source.old) (S.faults source.new) → OrNoMemory result a.status) }
+{
+    match command_of(words) {
+        None => Status::Usage,
+        Some(command) => match read_input(alloc, source) {
+            Ok(input) => obey(alloc, command, input.as_slice(), sink),
+            Err(InputError::Fault) => Status::ReadFault,
+            Err(InputError::TooLong) => Status::TooLong,
+            Err(InputError::NoMemory) => Status::NoMemory,
+        },
+    }
+}
+
+// Does a command on an input that was read whole.
+fn obey<K: Sink>(alloc: Global, command: Command, input: &[u8], sink: &mut K) -> Status
+    requires short { length input.now ≤ INPUT_LIMIT }
+    requires within { IsWithinLimit command }
+    ensures own { (result ≢ Status.Usage) × (result ≢ Status.ReadFault) × (result ≢ Status.TooLong) }
+    ensures sink_count { K.faults sink.old ≤ K.faults sink.new }
+    ensures no_memory { result ≡ Status.NoMemory → sink.new ≡ sink.old }
+    ensures refused { result ≡ Status.Refused → (case_answer command (case_of input.now)).status ≡ Status.Refused }
+    ensures refused_text { result ≡ Status.Refused → AppendsUnlessRose (K.held sink.old) (K.held sink.new) (K.faults sink.old) (K.faults sink.new) (case_answer command (case_of input.now)).text }
+    ensures write_fault { result ≡ Status.WriteFault → Rose (K.faults sink.old) (K.faults sink.new) }
+    ensures write_fault_run { result ≡ Status.WriteFault → IsRun (case_answer command (case_of input.now)).status }
+    ensures write_fault_text { result ≡ Status.WriteFault → AppendsPrefix (K.held sink.old) (K.held sink.new) (case_answer command (case_of input.now)).text }
+    ensures whole { IsRun result → result ≡ (case_answer command (case_of input.now)).status }
+    ensures whole_text { IsRun result → Appends (K.held sink.old) (K.held sink.new) (case_answer command (case_of input.now)).text }
+    ensures complete { DidNotRise (K.faults sink.old) (K.faults sink.new) → OrNoMemory result (case_answer command (case_of input.now)).status }
+    ensures early { IsEarly (case_answer command (case_of input.now)).status → OrNoMemory result (case_answer command (case_of input.now)).status }
+{
+    match read_case(alloc, input) {
+        Ok(image) => run(alloc, command, &image, sink),
+        Err(CaseError::NoMemory) => Status::NoMemory,
+        Err(CaseError::NotBuilt) => refuse(sink),
+    }
+}
+
+// Writes the line that refuses an input. A fault of the sink does not change the status.
+#[tactic(auto, unfolding(crate::specs::Answer::refusal_line))]
+fn refuse<K: Sink>(sink: &mut K) -> Status
+    ensures status { result ≡ Status.Refused }
+    ensures sink_count { K.faults sink.old ≤ K.faults sink.new }
+    ensures text { AppendsUnlessRose (K.held sink.old) (K.held sink.new) (K.faults sink.old) (K.faults sink.new) refusal_line }
+{
+    let _ = sink.write(b"refused 0 X1\n");
+    Status::Refused
+}
+
+// Does a command on an accepted case. All memory is taken before the first write.
+fn run<K: Sink>(alloc: Global, command: Command, image: &Image, sink: &mut K) -> Status
+    requires { IsWithinLimit command }
+    ensures own { (result ≡ Status.NoMemory) ⊎ ((result ≡ Status.WriteFault) ⊎ (result ≡ (case_answer command (Some image.now)).status)) }
+    ensures status { IsRun (case_answer command (Some image.now)).status }
+    ensures sink_count { K.faults sink.old ≤ K.faults sink.new }
+    ensures no_memory { result ≡ Status.NoMemory → sink.new ≡ sink.old }
+    ensures write_fault { result ≡ Status.WriteFault → Rose (K.faults sink.old) (K.faults sink.new) }
+    ensures write_fault_text { result ≡ Status.WriteFault → AppendsPrefix (K.held sink.old) (K.held sink.new) (case_answer command (Some image.now)).text }
+    ensures whole_text { IsRun result → Appends (K.held sink.old) (K.held sink.new) (case_answer command (Some image.now)).text }
+{
+    let Command::Run(count) = command;
+    match Machine::load(alloc, image) {
+        Ok(machine) => match write_run(machine, image, count, sink) {
+            Ok(()) => Status::Done,
+            Err(_) => Status::WriteFault,
+        },
+        Err(_) => Status::NoMemory,
+    }
+}

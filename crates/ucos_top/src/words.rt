@@ -1,0 +1,47 @@
+ghost use Rattle.std.specs.Prelude.{◌≡◌, ◌≤◌, IfSome};
+ghost use Rattle.ucos_top.specs.Words.{command_of, count_word, texts};
+ghost use Rattle.ucos_top.specs.Limit.{IsWithinLimit};
+
+use crate::COUNT_LIMIT;
+
+/// What the words ask for.
+#[derive(Clone, Copy, Debug, PartialEq, Eq)]
+pub enum Command {
+    /// The printed run of the case to so many task steps, at most `COUNT_LIMIT`, where interrupt code
+    /// posts at once.
+    Run(u32),
+}
+
+/// The command that the words are, if they are one: `run direct N`.
+pub fn command_of(words: &[String]) -> Option<Command>
+    ensures value { result ≡ command_of (texts words.now) }
+    ensures within { IfSome result IsWithinLimit }
+{
+    match words {
+        [first, method, count] if first.as_str() == "run" && method.as_str() == "direct" => {
+            Some(Command::Run(count_of(count.as_bytes())?))
+        }
+        _ => None,
+    }
+}
+
+// One to seven decimal digits, of a value of at most `COUNT_LIMIT`.
+fn count_of(word: &[u8]) -> Option<u32>
+    ensures value { result ≡ count_word word.now }
+    ensures within { IfSome result (λ count. count ≤ COUNT_LIMIT) }
+{
+    if word.is_empty() || word.len() > 7 {
+        return None;
+    }
+    let mut value: u32 = 0;
+    for digit in word {
+        if !digit.is_ascii_digit() {
+            return None;
+        }
+        value = value * 10 + u32::from(*digit - b'0');
+    }
+    if value > COUNT_LIMIT {
+        return None;
+    }
+    Some(value)
+}
