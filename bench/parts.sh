@@ -1,6 +1,6 @@
 #!/bin/sh
-# Measures parts of the work against `sha256sum` over as many bytes, in one run on one machine.
-# Prints a line a part: the time of the part and of sha256sum, each the best of seven, and their ratio.
+# Measures parts of the work in one run on one machine: reading against `sha256sum` over as many bytes,
+# instructions against as many plain additions. Prints a line a part: both times, each the best of seven, and their ratio.
 # First build the program: (cd crates/bench_parts && rt run)
 set -eu
 cd "$(dirname "$0")/.."
@@ -32,4 +32,8 @@ for part in lines comment number instructions; do
     hash=$(best sha256sum "$folder/$part")
     echo "tokens-$part $count: $((took / 1000)) us, sha256sum $((hash / 1000)) us, ratio $((took * 100 / hash))/100"
 done
+instructions=${2:-100000000}
+took=$(best "$program" instructions "$instructions")
+plain=$(best "$program" additions "$instructions")
+echo "instructions $instructions: $((took / 1000)) us, additions $((plain / 1000)) us, ratio $((took * 100 / plain))/100"
 echo "the program alone: $((empty / 1000)) us"

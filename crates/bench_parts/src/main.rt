@@ -3,6 +3,7 @@
 #![tactic(auto)]
 
 mod lexing;
+mod running;
 
 use std::alloc::Global;
 use std::env;
@@ -14,6 +15,8 @@ fn done(alloc: Global, part: &str, count: usize) -> anyhow::Result<usize> {
         "tokens-comment" => lexing::comment(alloc, count),
         "tokens-number" => lexing::number(alloc, count),
         "tokens-instructions" => lexing::instructions(alloc, count),
+        "instructions" => running::instructions(alloc, count),
+        "additions" => running::additions(count),
         _ => anyhow::bail!("no part is called {part}"),
     }
 }
