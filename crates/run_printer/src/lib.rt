@@ -6,6 +6,3 @@ mod pieces;
 mod words;
 
 pub use lines::{end_of_run, line_of};
-
-#[cfg(test)]
-mod tests;
