@@ -145,26 +145,34 @@ pub record SameShape (k j : Kernel) : Type 0 where
   pub prio : (y : ℕ) → (task_at j y).prio ≡ (task_at k y).prio
   pub suspended : (y : ℕ) → (task_at j y).suspended ≡ (task_at k y).suspended
   pub objects : (y : ℕ) → (task_at j y).objects ≡ (task_at k y).objects
+  pub mask : (y : ℕ) → (task_at j y).mask ≡ (task_at k y).mask
+  pub opt : (y : ℕ) → (task_at j y).opt ≡ (task_at k y).opt
 
 pub same_shape-refl : (k : Kernel) → SameShape k k
-same_shape-refl k = record { prio = λ y. refl; suspended = λ y. refl; objects = λ y. refl }
+same_shape-refl k = record { prio = λ y. refl; suspended = λ y. refl; objects = λ y. refl; mask = λ y. refl; opt = λ y. refl }
 
-same_shape-wakes : (f : Finished) (h x : ℕ) (k j : Kernel) → SameShape k j → SameShape k (wakes f h x j)
+pub same_shape-wakes : (f : Finished) (h x : ℕ) (k j : Kernel) → SameShape k j → SameShape k (wakes f h x j)
 same_shape-wakes f h x k j s =
     record {
       prio = λ y. update_task_same (λ t. t.prio) (answered_task f) (λ t. refl) j.tasks x y ∙ s.prio y;
       suspended = λ y. update_task_same (λ t. t.suspended) (answered_task f) (λ t. refl) j.tasks x y ∙ s.suspended y;
       objects = λ y. update_task_same (λ t. t.objects) (answered_task f) (λ t. refl) j.tasks x y ∙ s.objects y;
+      mask = λ y. update_task_same (λ t. t.mask) (answered_task f) (λ t. refl) j.tasks x y ∙ s.mask y;
+      opt = λ y. update_task_same (λ t. t.opt) (answered_task f) (λ t. refl) j.tasks x y ∙ s.opt y;
     }
+
+-- the lists after a wake from j, as the tasks of k say
+pub lists-wakes : (f : Finished) (h x : ℕ) (k j : Kernel) → SameShape k j → lists_of (wakes f h x j) ≡ record { ready = woken_ready (task_at k x).suspended (task_at k x).prio h x j.ready; pend = left_all x (task_at k x).objects j.pend }
+lists-wakes f h x k j s =
+    ap (λ n. let l : Lists = record { ready = woken_ready n (task_at j x).prio h x j.ready; pend = left_all x (task_at j x).objects j.pend } in l) (s.suspended x)
+    ∙ ap (λ n. let l : Lists = record { ready = woken_ready (task_at k x).suspended n h x j.ready; pend = left_all x (task_at j x).objects j.pend } in l) (s.prio x)
+    ∙ ap (λ os. let l : Lists = record { ready = woken_ready (task_at k x).suspended (task_at k x).prio h x j.ready; pend = left_all x os j.pend } in l) (s.objects x)
 
 pub lists-wakes_all : (f : Task → Finished) (h : ℕ) (xs : List ℕ) (k j : Kernel) → SameShape k j → lists_of (wakes_all f h xs j) ≡ lists_after k h xs (lists_of j)
 lists-wakes_all f h [] k j s = refl
 lists-wakes_all f h (x ∷ xs) k j s =
-    lists-wakes_all f h xs k (wakes (f (task_at j x)) h x j) (same_shape-wakes (f (task_at j x)) h x k j s)
-    ∙ ap (λ l. lists_after k h xs l)
-    (ap (λ n. let l : Lists = record { ready = woken_ready n (task_at j x).prio h x j.ready; pend = left_all x (task_at j x).objects j.pend } in l) (s.suspended x)
-    ∙ ap (λ n. let l : Lists = record { ready = woken_ready (task_at k x).suspended n h x j.ready; pend = left_all x (task_at j x).objects j.pend } in l) (s.prio x)
-    ∙ ap (λ os. let l : Lists = record { ready = woken_ready (task_at k x).suspended (task_at k x).prio h x j.ready; pend = left_all x os j.pend } in l) (s.objects x))
+    let g = f (task_at j x) in
+    lists-wakes_all f h xs k (wakes g h x j) (same_shape-wakes g h x k j s) ∙ ap (λ l. lists_after k h xs l) (lists-wakes g h x k j s)
 
 pub does_block : (k : Kernel) (x : ℕ) (os : List ℕ) → Does (in_order (block_blocks k x os)) (λ l. record { ready = update_list l.ready (prio_of k x) (without x); pend = stands_in (prio_of k) x (prio_of k x) os l.pend })
 does_block k x os =

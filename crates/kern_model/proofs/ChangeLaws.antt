@@ -1,27 +1,25 @@
 -- What keeps the kernel valid besides wakes and blocks: a change of content, the end of a wait, a trap; and how long the
 -- lists of a valid kernel are.
 use Rattle.std.proofs.Common.{◌≡◌, ◌⊎◌, ℕ, zero, suc, ◌<◌, ◌≤◌, ◌+◌, List, [], ◌∷◌, length, get_or, refl, sym, ap, ◌∙◌, subst, Bool, true, false, ◌&&◌, arith, inl, inr, Option, Some, None}
-use Rattle.std.specs.Prelude.{All, ◌==◌, if◌then◌else◌, bit_and, bit_or}
+use Rattle.std.specs.Prelude.{All, ◌==◌, if◌then◌else◌}
 use Rattle.std.proofs.lemmas.List.{length-set, get_or_past}
 use Rattle.std.proofs.lemmas.Bool.{true≢false, cases_lt}
 use Rattle.std.proofs.lemmas.Bool.Decides.{eqb_tells}
 use Rattle.std.proofs.lemmas.List.Elements.{All-head, All-tail}
-use Rattle.std.proofs.lemmas.Nat.{or_lt, and_le_l}
 use Rattle.kern_base.specs.declared.services.Service.{Service}
 use Rattle.kern_base.specs.declared.services.Service.TheVariants.{FlagPend}
 use Rattle.kern_base.specs.declared.errors.OsErr.{OsErr}
 use Rattle.kern_base.specs.declared.errors.OsErr.TheVariants.{NoError}
 use Rattle.kern_base.specs.declared.outcomes.Finished.{Finished}
 use Rattle.kern_model.specs.State.{Kernel, Task, Object, Content, Count, Messages, Bits, Held, Timed, list_at, update_list, update_task, update_object, with_content, no_task, no_object, task_at, prio_of, object_at, count_of, without, is_ready, is_zero, waits_for_nothing}
-use Rattle.kern_model.specs.FlagBits.{consumed, turned, has_bit}
 use Rattle.kern_model.specs.Finish.{finished, finished_with, flags_consumed, consumed_in, consumed_object, consumed_content}
 use Rattle.kern_model.specs.Stop.{stopped}
-use Rattle.kern_model.specs.Valid.{IsValid, IsTask, IsContent, IsWord, IsResult, AllWait, one_if, matched, has_result}
-use Rattle.kern_model.proofs.StepLaws.{choice}
+use Rattle.kern_model.specs.Valid.{IsValid, IsTask, IsContent, IsWord, AllWait, one_if, matched, has_result}
 use Rattle.kern_model.proofs.Laws.{task-updated, task-other}
+use Rattle.kern_model.proofs.TaskChange.{OneTask, valid-one_task}
 use Rattle.kern_model.proofs.CountLaws.{length-le_by_counts}
 use Rattle.kern_model.proofs.ListLaws.{count-left_other, count-left_here, count-left_none}
-use Rattle.kern_model.proofs.ValidLaws.{OneTask, valid-one_task, self_equal, ready_free}
+use Rattle.kern_model.proofs.ValidLaws.{self_equal, ready_free}
 
 inside : (bs : List Object) (o : ℕ) → (get_or bs o no_object).deleted ≡ false → o < length bs
 inside [] o h = absurd (true≢false h)
@@ -53,6 +51,7 @@ valid-objects k objects same each v =
       idle = v.idle;
       idle_prio = v.idle_prio;
       above_idle = v.above_idle;
+      bases = v.bases;
       tick_lives = v.tick_lives;
       timer_lives = v.timer_lives;
       tick_waits = v.tick_waits;
@@ -77,33 +76,26 @@ valid-with_content k o content c v =
     valid-objects k (update_object k.objects o (λ b. record b { content = content })) (length-set k.objects o _)
     (update_object_keeps (λ b. IsContent b.content) (λ b. record b { content = content }) k.objects o (λ _. c) v.each_object) v
 
--- the bits of a group stay a word
-consumed-word : (bits ready opt : ℕ) → IsWord bits → IsWord ready → IsWord (consumed bits ready opt)
-consumed-word bits ready opt b r =
-    choice IsWord (has_bit opt 4) (if has_bit opt 2 then bit_or bits ready else bit_and bits (turned ready)) bits
-    (choice IsWord (has_bit opt 2) (bit_or bits ready) (bit_and bits (turned ready)) (or_lt 32 bits ready b r) (omega (arith, b, and_le_l bits (turned ready))))
-    b
-
-consumed_content-valid : (ready opt : ℕ) (c : Content) → IsWord ready → IsContent c → IsContent (consumed_content ready opt c)
-consumed_content-valid ready opt (Bits bits) r c = consumed-word bits ready opt c r
-consumed_content-valid ready opt (Count n) r c = c
-consumed_content-valid ready opt (Messages limit ms) r c = c
-consumed_content-valid ready opt (Held owner nesting) r c = c
-consumed_content-valid ready opt (Timed t) r c = c
+consumed_content-valid : (ready opt : ℕ) (c : Content) → IsContent c → IsContent (consumed_content ready opt c)
+consumed_content-valid ready opt (Bits bits) c = tt
+consumed_content-valid ready opt (Count n) c = c
+consumed_content-valid ready opt (Messages limit ms) c = c
+consumed_content-valid ready opt (Held owner nesting) c = c
+consumed_content-valid ready opt (Timed t) c = c
 
 -- the end of a wait
-consumed_objects-valid : (t : Task) (ready : ℕ) (bs : List Object) → IsWord ready → ((i : ℕ) → IsContent (get_or bs i no_object).content) → (s : Service) (err : OsErr) → (length (flags_consumed s err t ready bs) ≡ length bs) × ((i : ℕ) → IsContent (get_or (flags_consumed s err t ready bs) i no_object).content)
-consumed_objects-valid t ready bs word each FlagPend NoError = consumed_in-valid t.objects
+consumed_objects-valid : (t : Task) (ready : ℕ) (bs : List Object) → ((i : ℕ) → IsContent (get_or bs i no_object).content) → (s : Service) (err : OsErr) → (length (flags_consumed s err t ready bs) ≡ length bs) × ((i : ℕ) → IsContent (get_or (flags_consumed s err t ready bs) i no_object).content)
+consumed_objects-valid t ready bs each FlagPend NoError = consumed_in-valid t.objects
   where
     one_valid : (b : Object) (d : Bool) → IsContent b.content → IsContent (Object.content (if d then b else record b { content = consumed_content ready t.opt b.content }))
     one_valid b true c = c
-    one_valid b false c = consumed_content-valid ready t.opt b.content word c
+    one_valid b false c = consumed_content-valid ready t.opt b.content c
 
     consumed_in-valid : (os : List ℕ) → (length (consumed_in os ready t.opt bs) ≡ length bs) × ((i : ℕ) → IsContent (get_or (consumed_in os ready t.opt bs) i no_object).content)
     consumed_in-valid [] = (refl, each)
     consumed_in-valid (o ∷ os) =
         (length-set bs o _, update_object_keeps (λ b. IsContent b.content) (consumed_object ready t.opt) bs o (λ c. one_valid (get_or bs o no_object) (get_or bs o no_object).deleted c) each)
-consumed_objects-valid t ready bs word each s err = (refl, each)
+consumed_objects-valid t ready bs each s err = (refl, each)
 
 -- the changes of a task record
 abbrev pub cleared_task : Task → Task
@@ -127,6 +119,7 @@ one_task-cleared k v x inside =
       task = subst (λ u. IsTask (length k.objects) u) (sym own) (cleared_valid (length k.objects) t (v.each_task x));
       lives = λ a. ap (λ (u : Task). u.alive) (sym own) ∙ a;
       prio = λ a. subst (λ (u : Task). u.prio ≤ 62) (sym own) (v.above_idle x (λ e. absurd (omega (arith, e))) (ap (λ (u : Task). u.alive) (sym own) ∙ a));
+      base = λ a. subst (λ (u : Task). u.base ≤ 62) (sym own) (v.bases x (λ e. absurd (omega (arith, e))) (ap (λ (u : Task). u.alive) (sym own) ∙ a));
       each_object = v.each_object;
       ready_others = λ p y d. refl;
       ready_own = λ p. v.stands p x ∙ ap (λ (u : Task). one_if (is_ready u && (u.prio == p))) (sym own);
@@ -153,6 +146,7 @@ one_task-cleared k v x inside =
         record {
           prio_from = i.prio_from;
           prio_to = i.prio_to;
+          base_from = i.base_from;
           objects = i.objects;
           few = i.few;
           different = i.different;
@@ -160,16 +154,14 @@ one_task-cleared k v x inside =
           reads = λ e. refl;
           suspended = i.suspended;
           count = i.count;
-          result = tt;
         }
 
 finished-by : (x : ℕ) (k : Kernel) → IsValid k → (a : Option Finished) → (task_at k x).answered ≡ a → IsValid (finished_with a x k)
 finished-by x k v None e = v
 finished-by x k v (Some f) e =
     let t = task_at k x in
-    let word : IsWord f.answer.value = subst IsResult e (v.each_task x).result in
     let objects = flags_consumed f.service f.answer.err t f.answer.value k.objects in
-    let each = consumed_objects-valid t f.answer.value k.objects word v.each_object f.service f.answer.err in
+    let each = consumed_objects-valid t f.answer.value k.objects v.each_object f.service f.answer.err in
     let j : Kernel = record k { objects = objects } in
     let valid : IsValid j = valid-objects k objects each.0 each.1 v in
     valid-one_task j (record j { tasks = update_task k.tasks x cleared_task }) x valid (one_task-cleared j valid x (inside_60 (cases_lt x 60)))
@@ -204,6 +196,7 @@ valid-stopped x k v inside r quiet = valid-one_task k (stopped x k) x v one
         record {
           prio_from = i.prio_from;
           prio_to = i.prio_to;
+          base_from = i.base_from;
           objects = i.objects;
           few = i.few;
           different = i.different;
@@ -211,7 +204,6 @@ valid-stopped x k v inside r quiet = valid-one_task k (stopped x k) x v one
           reads = i.reads;
           suspended = i.suspended;
           count = i.count;
-          result = i.result;
         }
 
     one : OneTask k (stopped x k) x
@@ -227,6 +219,7 @@ valid-stopped x k v inside r quiet = valid-one_task k (stopped x k) x v one
           task = subst (λ u. IsTask (length k.objects) u) (sym own) dead_valid;
           lives = λ a. absurd (true≢false (sym a ∙ ap (λ (u : Task). u.alive) own));
           prio = λ a. absurd (true≢false (sym a ∙ ap (λ (u : Task). u.alive) own));
+          base = λ a. absurd (true≢false (sym a ∙ ap (λ (u : Task). u.alive) own));
           each_object = v.each_object;
           ready_others = λ p y d. count-left_other x (prio_of k x) k.ready p y d;
           ready_own = λ p. gone p ∙ ap (λ (u : Task). one_if (is_ready u && (u.prio == p))) (sym own);
@@ -288,7 +281,7 @@ once_none : (b : Bool) → (if b then 0 else 1) ≤ 1
 once_none true = omega arith
 once_none false = omega arith
 
-matched_none : (ms : List (ℕ × ℕ)) → All (λ m. (m.0 < 60) × IsWord m.1) ms → (x : ℕ) → 60 ≤ x → count_of x (matched ms) ≡ 0
+pub matched_none : (ms : List (ℕ × ℕ)) → All (λ m. (m.0 < 60) × IsWord m.1) ms → (x : ℕ) → 60 ≤ x → count_of x (matched ms) ≡ 0
 matched_none [] h x l = refl
 matched_none (m ∷ ms) h x l =
     elim (eqb_tells m.0 x) as (λ _. one_if (m.0 == x) + count_of x (matched ms) ≡ 0) [
@@ -310,7 +303,7 @@ length-matches k v =
     least p q = omega arith
 
 -- the waiters of an object wait
-all_wait : (k : Kernel) (xs : List ℕ) → ((x : ℕ) → 0 < count_of x xs → (x < 60) × (waits_for_nothing (task_at k x).waiting ≡ false)) → ((x : ℕ) → count_of x xs ≤ 1) → AllWait k xs
+pub all_wait : (k : Kernel) (xs : List ℕ) → ((x : ℕ) → 0 < count_of x xs → (x < 60) × (waits_for_nothing (task_at k x).waiting ≡ false)) → ((x : ℕ) → count_of x xs ≤ 1) → AllWait k xs
 all_wait k [] h once = tt
 all_wait k (x ∷ xs) h once =
     let one : one_if (x == x) ≡ 1 = ap one_if (self_equal x) in

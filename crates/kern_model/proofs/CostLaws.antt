@@ -58,7 +58,7 @@ wakes_cost-le k (x ∷ xs) n h = let more = wakes_cost-le k xs n h in let this =
 abbrev pub AtMost : ℕ → List (List ℕ) → Type 0
 AtMost n lists = (o : ℕ) → length (list_at lists o) ≤ n
 
-take_while-le : (f : ℕ → Bool) (xs : List ℕ) → length (take_while f xs) ≤ length xs
+pub take_while-le : (f : ℕ → Bool) (xs : List ℕ) → length (take_while f xs) ≤ length xs
 take_while-le f xs = omega (arith, length-take (prefix_len f xs) xs)
 
 grown-at_most : (n : ℕ) (f : List ℕ → List ℕ) → ((xs : List ℕ) → length (f xs) ≡ length xs + 1) → (lists : List (List ℕ)) (o : ℕ) → AtMost n lists → AtMost (n + 1) (update_list lists o f)
@@ -68,14 +68,15 @@ grown-at_most n f grows (xs ∷ lists) zero h (suc q) = omega (arith, h (suc q))
 grown-at_most n f grows (xs ∷ lists) (suc o) h zero = omega (arith, h 0)
 grown-at_most n f grows (xs ∷ lists) (suc o) h (suc q) = grown-at_most n f grows lists o (λ i. h (suc i)) q
 
+pub length-inserted : (xs : List ℕ) (i x : ℕ) → length (insert xs i x) ≡ length xs + 1
+length-inserted xs i x =
+    omega (arith, length-append (take i xs) (x ∷ drop i xs), length-append (take i xs) (drop i xs), ap (λ l. length l) (take-append-drop i xs))
+
 insert-at_most : (n : ℕ) (place : List ℕ → ℕ) (lists : List (List ℕ)) (o x : ℕ) → AtMost n lists → AtMost (n + 1) (update_list lists o (λ xs. insert xs (place xs) x))
 insert-at_most n place lists o x h =
     grown-at_most n (λ xs. insert xs (place xs) x) (λ xs. length-inserted xs (place xs) x) lists o h
-  where
-    length-inserted : (xs : List ℕ) (i x : ℕ) → length (insert xs i x) ≡ length xs + 1
-    length-inserted xs i x = omega (arith, length-append (take i xs) (x ∷ drop i xs), length-append (take i xs) (drop i xs), ap (λ l. length l) (take-append-drop i xs))
 
-length-passed : (n : ℕ) (ms : List Micro) → length (replicate n Plain ++ ms) ≡ n + length ms
+pub length-passed : (n : ℕ) (ms : List Micro) → length (replicate n Plain ++ ms) ≡ n + length ms
 length-passed zero ms = omega arith
 length-passed (suc n) ms = omega (arith, length-passed n ms)
 

@@ -21,6 +21,13 @@ update_task_keeps P f (t ∷ ts) zero h old (suc y) = old (suc y)
 update_task_keeps P f (t ∷ ts) (suc x) h old zero = old 0
 update_task_keeps P f (t ∷ ts) (suc x) h old (suc y) = update_task_keeps P f ts x h (λ z. old (suc z)) y
 
+pub update_task_at : (P : ℕ → Task → Type 0) (f : Task → Task) (ts : List Task) (x : ℕ) → (P x (get_or ts x no_task) → P x (f (get_or ts x no_task))) → ((y : ℕ) → P y (get_or ts y no_task)) → (y : ℕ) → P y (get_or (update_task ts x f) y no_task)
+update_task_at P f [] x h old y = old y
+update_task_at P f (t ∷ ts) zero h old zero = h (old 0)
+update_task_at P f (t ∷ ts) zero h old (suc y) = old (suc y)
+update_task_at P f (t ∷ ts) (suc x) h old zero = old 0
+update_task_at P f (t ∷ ts) (suc x) h old (suc y) = update_task_at (λ n. P (suc n)) f ts x h (λ z. old (suc z)) y
+
 pub length-left_all : (x : ℕ) (os : List ℕ) (lists : List (List ℕ)) → length (left_all x os lists) ≡ length lists
 length-left_all x [] lists = refl
 length-left_all x (o ∷ os) lists = length-left_all x os _ ∙ length-set lists o _

@@ -1,103 +1,18 @@
 -- What keeps the kernel valid: a wake, a block, a change of content, the end of a wait, a trap.
-use Rattle.std.proofs.Common.{◌≡◌, ◌≢◌, ℕ, zero, suc, ◌<◌, ◌≤◌, ◌+◌, ◌^◌, List, [], ◌∷◌, ◌++◌, length, refl, sym, ap, ◌∙◌, subst, Bool, true, false, ◌&&◌, not, arith, inl, inr}
+use Rattle.std.proofs.Common.{◌≡◌, ◌≢◌, ℕ, zero, suc, ◌<◌, ◌≤◌, ◌+◌, ◌^◌, List, [], ◌∷◌, ◌++◌, length, refl, sym, ap, ◌∙◌, subst, Bool, true, false, ◌&&◌, arith, inl, inr}
 use Rattle.std.specs.Prelude.{All, ◌==◌, ◌%◌, if◌then◌else◌}
 use Rattle.std.proofs.lemmas.List.{length-set}
 use Rattle.std.proofs.lemmas.List.Elements.{All-nil, All-append, All-cons}
 use Rattle.std.proofs.lemmas.Bool.{false≢true, true≢false}
 use Rattle.std.proofs.lemmas.Bool.Decides.{eqb_tells}
 use Rattle.kern_base.specs.declared.outcomes.Finished.{Finished}
-use Rattle.kern_base.specs.declared.outcomes.Waiting.TheVariants.{No, Signal}
-use Rattle.kern_model.specs.State.{Kernel, Task, list_at, update_list, task_at, prio_of, object_at, count_of, without, is_ready, is_zero, waits_for_nothing}
+use Rattle.kern_model.specs.State.{Kernel, Task, list_at, update_list, task_at, prio_of, count_of, without, is_ready, is_zero, waits_for_nothing}
 use Rattle.kern_model.specs.Effect.{Wait, wakes, wakes_all, answered_task, woken_ready, blocked, waiting_task, new_match}
 use Rattle.kern_model.specs.Micro.{join_place}
-use Rattle.kern_model.specs.Valid.{IsValid, IsTask, IsContent, IsWord, AllWait, one_if, matched, has_result}
+use Rattle.kern_model.specs.Valid.{IsValid, IsTask, IsWord, AllWait, one_if, matched, has_result}
+use Rattle.kern_model.proofs.TaskChange.{OneTask, valid-one_task}
 use Rattle.kern_model.proofs.Laws.{length-left_all, length-woken_ready, length-stands_in, task-updated, task-other}
 use Rattle.kern_model.proofs.ListLaws.{count-joined_other, count-joined_own, count-left_other, count-left_here, count-left_none, count-left_all_other, count-left_all_here, count-stands_in_other, count-stands_in_own, count-unmatched_other, count-unmatched_own, unmatched-keeps}
-
--- k becomes j by a change of one application task and its places in the lists
-pub record OneTask (k j : Kernel) (x : ℕ) : Type 0 where
-  pub application : x < 60
-  pub tasks : length j.tasks ≡ length k.tasks
-  pub ready : length j.ready ≡ length k.ready
-  pub pend : length j.pend ≡ length k.pend
-  pub objects : length j.objects ≡ length k.objects
-  pub settings : j.settings ≡ k.settings
-  pub others : (y : ℕ) → x ≢ y → task_at j y ≡ task_at k y
-  pub task : IsTask (length k.objects) (task_at j x)
-  pub lives : (task_at j x).alive ≡ true → (task_at k x).alive ≡ true
-  pub prio : (task_at j x).alive ≡ true → prio_of j x ≤ 62
-  pub each_object : (o : ℕ) → IsContent (object_at j o).content
-  pub ready_others : (p y : ℕ) → x ≢ y → count_of y (list_at j.ready p) ≡ count_of y (list_at k.ready p)
-  pub ready_own : (p : ℕ) → count_of x (list_at j.ready p) ≡ one_if (is_ready (task_at j x) && (prio_of j x == p))
-  pub pend_others : (o y : ℕ) → x ≢ y → count_of y (list_at j.pend o) ≡ count_of y (list_at k.pend o)
-  pub pend_own : (o : ℕ) → count_of x (list_at j.pend o) ≡ (if waits_for_nothing (task_at j x).waiting then 0 else count_of o (task_at j x).objects)
-  pub match_others : (y : ℕ) → x ≢ y → count_of y (matched j.matches) ≡ count_of y (matched k.matches)
-  pub match_own : count_of x (matched j.matches) ≤ (if waits_for_nothing (task_at j x).waiting then 0 else 1)
-  pub match_words : All (λ m. (m.0 < 60) × IsWord m.1) j.matches
-  pub tick_signals : j.tick_signals ≡ k.tick_signals
-  pub timer_signals : j.timer_signals ≡ k.timer_signals
-  pub processing : j.processing ≡ k.processing
-  pub in_callback : j.in_callback ≡ k.in_callback
-  pub ticks : j.ticks ≡ k.ticks
-  pub timer_count : j.timer_count ≡ k.timer_count
-  pub lock : j.lock ≤ 250
-  pub locked : j.processing ≡ true → 0 < j.lock
-
--- a fact of x and a fact of all others
-by_task : (P : ℕ → Type 0) (x : ℕ) → P x → ((y : ℕ) → x ≢ y → P y) → (y : ℕ) → P y
-by_task P x own others y = elim (eqb_tells x y) [ inl e ↦ subst P e.1 own | inr e ↦ others y e.1 ]
-
-far : (x n : ℕ) → x < 60 → 60 ≤ n → x ≢ n
-far x n h g e = absurd (omega (arith, e))
-
-pub valid-one_task : (k j : Kernel) (x : ℕ) → IsValid k → OneTask k j x → IsValid j
-valid-one_task k j x v c =
-    record {
-      tasks = c.tasks ∙ v.tasks;
-      ready = c.ready ∙ v.ready;
-      pend = c.pend ∙ v.pend ∙ sym c.objects;
-      objects = subst (λ n. n ≤ 64) (sym c.objects) v.objects;
-      application = subst (λ s. s.tasks ≤ 60) (sym c.settings) v.application;
-      each_task = by_task (λ y. IsTask (length j.objects) (task_at j y)) x
-          (subst (λ n. IsTask n (task_at j x)) (sym c.objects) c.task)
-          (λ y d. subst (λ n. IsTask n (task_at j y)) (sym c.objects) (subst (λ t. IsTask (length k.objects) t) (sym (c.others y d)) (v.each_task y)));
-      each_object = c.each_object;
-      stands = λ p. by_task (λ y. count_of y (list_at j.ready p) ≡ one_if (is_ready (task_at j y) && (prio_of j y == p))) x (c.ready_own p)
-          (λ y d. c.ready_others p y d ∙ v.stands p y ∙ ap (λ t. one_if (is_ready t && (t.prio == p))) (sym (c.others y d)));
-      waiters = λ o. by_task (λ y. count_of y (list_at j.pend o) ≡ (if waits_for_nothing (task_at j y).waiting then 0 else count_of o (task_at j y).objects)) x (c.pend_own o)
-          (λ y d. c.pend_others o y d ∙ v.waiters o y ∙ ap (λ (t : Task). if waits_for_nothing t.waiting then 0 else count_of o t.objects) (sym (c.others y d)));
-      once_matched = by_task (λ y. count_of y (matched j.matches) ≤ (if waits_for_nothing (task_at j y).waiting then 0 else 1)) x c.match_own
-          (λ y d. subst (λ n. n ≤ (if waits_for_nothing (task_at j y).waiting then 0 else 1)) (sym (c.match_others y d))
-          (subst (λ (t : Task). count_of y (matched k.matches) ≤ (if waits_for_nothing t.waiting then 0 else 1)) (sym (c.others y d)) (v.once_matched y)));
-      match_words = c.match_words;
-      internal = λ y h. subst (λ (t : Task). (t.objects ≡ []) × (has_result t.answered ≡ false)) (sym (c.others y (far x y c.application h))) (v.internal y h);
-      declared = by_task (λ y. j.settings.tasks ≤ y → y < 60 → (task_at j y).alive ≡ false) x
-          (λ h i. gone (task_at j x).alive (λ a. sym (v.declared x (subst (λ s. s.tasks ≤ x) c.settings h) i) ∙ c.lives a))
-          (λ y d h i. ap (λ (t : Task). t.alive) (c.others y d) ∙ v.declared y (subst (λ s. s.tasks ≤ y) c.settings h) i);
-      handler = ap (λ (t : Task). t.alive) (same 63 (omega arith)) ∙ v.handler;
-      idle = ap (λ t. is_ready t) (same 62 (omega arith)) ∙ v.idle;
-      idle_prio = ap (λ (t : Task). t.prio) (same 62 (omega arith)) ∙ v.idle_prio;
-      above_idle = by_task (λ y. y ≢ 62 → (task_at j y).alive ≡ true → prio_of j y ≤ 62) x (λ d a. c.prio a)
-          (λ y d h. subst (λ (t : Task). t.alive ≡ true → t.prio ≤ 62) (sym (c.others y d)) (v.above_idle y h));
-      tick_lives = subst (λ (t : Task). (t.alive ≡ true) × (t.suspended ≡ 0)) (sym (same 60 (omega arith))) v.tick_lives;
-      timer_lives = subst (λ (t : Task). (t.alive ≡ true) × (t.suspended ≡ 0)) (sym (same 61 (omega arith))) v.timer_lives;
-      tick_waits = ap (λ (t : Task). t.waiting) (same 60 (omega arith)) ∙ v.tick_waits ∙ ap (λ n. if is_zero n then Signal else No) (sym c.tick_signals);
-      timer_waits = ap (λ (t : Task). t.waiting) (same 61 (omega arith)) ∙ v.timer_waits
-          ∙ ap (λ n. if is_zero n && not k.processing then Signal else No) (sym c.timer_signals)
-          ∙ ap (λ b. if is_zero j.timer_signals && not b then Signal else No) (sym c.processing);
-      lock = c.lock;
-      locked = c.locked;
-      callback = λ h. c.processing ∙ v.callback (sym c.in_callback ∙ h);
-      ticks = subst IsWord (sym c.ticks) v.ticks;
-      timer_count = subst IsWord (sym c.timer_count) v.timer_count;
-    }
-  where
-    same : (n : ℕ) → 60 ≤ n → task_at j n ≡ task_at k n
-    same n h = c.others n (far x n c.application h)
-
-    gone : (b : Bool) → (b ≡ true → false ≡ true) → b ≡ false
-    gone true h = sym (h refl)
-    gone false h = refl
 
 -- facts of tests
 pub self_equal : (n : ℕ) → (n == n) ≡ true
@@ -162,8 +77,11 @@ module _ (k : Kernel) (v : IsValid k) (x : ℕ) (inside : x < 60) where
   below_63 : (task_at k x).alive ≡ true → prio_of k x ≤ 62
   below_63 a = v.above_idle x (λ e. absurd (omega (arith, e))) a
 
+  base_62 : (task_at k x).alive ≡ true → (task_at k x).base ≤ 62
+  base_62 a = v.bases x (λ e. absurd (omega (arith, e))) a
+
   -- a wake
-  module _ (f : Finished) (h : ℕ) (w : waits_for_nothing (task_at k x).waiting ≡ false) (word : IsWord f.answer.value) where
+  module _ (f : Finished) (h : ℕ) (w : waits_for_nothing (task_at k x).waiting ≡ false) where
     woken_own : (p n : ℕ) → count_of x (list_at (woken_ready n (prio_of k x) h x k.ready) p) ≡ one_if (((task_at k x).alive && (true && is_zero n)) && (prio_of k x == p))
     woken_own p zero =
         let before = not_ready-absent k v x (no_ready (task_at k x).alive (waits_for_nothing (task_at k x).waiting) (is_zero (task_at k x).suspended) w) p in
@@ -195,6 +113,7 @@ module _ (k : Kernel) (v : IsValid k) (x : ℕ) (inside : x < 60) where
           task = subst (λ u. IsTask (length k.objects) u) (sym own-wakes) (answered_valid (length k.objects) t (v.each_task x));
           lives = λ a. ap (λ (u : Task). u.alive) (sym own-wakes) ∙ a;
           prio = λ a. subst (λ (u : Task). u.prio ≤ 62) (sym own-wakes) (below_63 (ap (λ (u : Task). u.alive) (sym own-wakes) ∙ a));
+          base = λ a. subst (λ (u : Task). u.base ≤ 62) (sym own-wakes) (base_62 (ap (λ (u : Task). u.alive) (sym own-wakes) ∙ a));
           each_object = v.each_object;
           ready_others = λ p y d. woken_others p t.suspended y d;
           ready_own = λ p. woken_own p t.suspended ∙ ap (λ (u : Task). one_if (is_ready u && (u.prio == p))) (sym own-wakes);
@@ -219,6 +138,7 @@ module _ (k : Kernel) (v : IsValid k) (x : ℕ) (inside : x < 60) where
             record {
               prio_from = i.prio_from;
               prio_to = i.prio_to;
+              base_from = i.base_from;
               objects = i.objects;
               few = i.few;
               different = i.different;
@@ -226,7 +146,6 @@ module _ (k : Kernel) (v : IsValid k) (x : ℕ) (inside : x < 60) where
               reads = λ e. absurd (true≢false e);
               suspended = i.suspended;
               count = i.count;
-              result = word;
             }
 
     pub valid-wakes : IsValid (wakes f h x k)
@@ -268,6 +187,7 @@ module _ (k : Kernel) (v : IsValid k) (x : ℕ) (inside : x < 60) where
           task = subst (λ u. IsTask (length k.objects) u) (sym own-blocked) waiting_valid;
           lives = λ e. ap (λ (u : Task). u.alive) (sym own-blocked) ∙ e;
           prio = λ e. subst (λ (u : Task). u.prio ≤ 62) (sym own-blocked) (below_63 (ap (λ (u : Task). u.alive) (sym own-blocked) ∙ e));
+          base = λ e. subst (λ (u : Task). u.base ≤ 62) (sym own-blocked) (base_62 (ap (λ (u : Task). u.alive) (sym own-blocked) ∙ e));
           each_object = v.each_object;
           ready_others = λ p y d. count-left_other x t.prio k.ready p y d;
           ready_own = λ p. blocked_own p ∙ ap (λ (u : Task). one_if (is_ready u && (u.prio == p))) (sym own-blocked);
@@ -299,6 +219,7 @@ module _ (k : Kernel) (v : IsValid k) (x : ℕ) (inside : x < 60) where
             record {
               prio_from = i.prio_from;
               prio_to = i.prio_to;
+              base_from = i.base_from;
               objects = os;
               few = few;
               different = different;
@@ -306,7 +227,6 @@ module _ (k : Kernel) (v : IsValid k) (x : ℕ) (inside : x < 60) where
               reads = λ e. a;
               suspended = i.suspended;
               count = i.count;
-              result = i.result;
             }
 
         new_others : (n y : ℕ) → x ≢ y → count_of y (matched (k.matches ++ new_match x n k.ticks)) ≡ count_of y (matched k.matches)
@@ -344,8 +264,8 @@ AllWait-wakes f h x k (y ∷ ys) none w =
           (w.0, ap (λ u. waits_for_nothing u.waiting) (task-other k.tasks x (answered_task f) y (λ d. e.1 (sym d))) ∙ w.1, w.2, AllWait-wakes f h x k ys others w.3)
     ]
 
-pub valid-wakes_all : (f : Task → Finished) (h : ℕ) (xs : List ℕ) (k : Kernel) → ((t : Task) → IsWord (f t).answer.value) → IsValid k → AllWait k xs → IsValid (wakes_all f h xs k)
-valid-wakes_all f h [] k word v w = v
-valid-wakes_all f h (x ∷ xs) k word v w =
+pub valid-wakes_all : (f : Task → Finished) (h : ℕ) (xs : List ℕ) (k : Kernel) → IsValid k → AllWait k xs → IsValid (wakes_all f h xs k)
+valid-wakes_all f h [] k v w = v
+valid-wakes_all f h (x ∷ xs) k v w =
     let g = f (task_at k x) in
-    valid-wakes_all f h xs (wakes g h x k) word (valid-wakes k v x w.0 g h w.1 (word (task_at k x))) (AllWait-wakes g h x k xs w.2 w.3)
+    valid-wakes_all f h xs (wakes g h x k) (valid-wakes k v x w.0 g h w.1) (AllWait-wakes g h x k xs w.2 w.3)

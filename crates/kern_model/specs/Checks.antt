@@ -26,6 +26,7 @@ existence_error r x k =
     if is_deleted (kinds_wanted r.service) (object_at k (argument r 0)) then Some ObjectType
     else (if names_task r.service && not (task_at k (named_task r x)).alive then Some TaskNotExist else None)
 
+-- the first of two errors, where there is one
 abbrev pub first_error : Option OsErr → Option OsErr → Option OsErr
 first_error (Some err) later = Some err
 first_error None later = later

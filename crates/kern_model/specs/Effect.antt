@@ -22,12 +22,15 @@ pub record Effect : Type 0 where
 
 -- answers
 
+-- an answer with this error and value, and no message
 abbrev pub answer : OsErr → ℕ → Answer
 answer err value = record { err = err; value = value; extra = 0 }
 
+-- an answer without an error
 abbrev pub fine : ℕ → Answer
 fine value = answer NoError value
 
+-- the outcome of a call that is answered at once
 abbrev pub answers : Answer → Outcome
 answers a = Answered a None
 
@@ -38,6 +41,12 @@ refused k err = record { kernel = k; outcome = answers (answer err 0); blocks = 
 -- a call that is answered at once, without a block
 abbrev pub done : Kernel → Answer → Effect
 done k a = record { kernel = k; outcome = answers a; blocks = [] }
+
+-- an effect, and then another from the kernel that it leaves: the outcome is the second one's
+abbrev pub and_then : Effect → (Kernel → Effect) → Effect
+and_then e f =
+    let g = f e.kernel in
+    record { kernel = g.kernel; outcome = g.outcome; blocks = e.blocks ++ g.blocks }
 
 -- The results that wait for a task.
 
@@ -60,6 +69,7 @@ waited Multi t a = multi_result t a 0 (replicate 8 (0, 0))
 waited No t a = plain_result (Unknown 0) a
 waited Signal t a = plain_result (Unknown 0) a
 
+-- the result of the call in which this task waits, where no message is handed to it
 abbrev pub result_of : Answer → Task → Finished
 result_of a t = waited t.waiting t a
 
@@ -74,12 +84,14 @@ posted_to Multi o a t =
     multi_result t (fine 1) (2 ^ i) (slice_set (replicate 8 (0, 0)) i (a.value, a.extra))
 posted_to w o a t = waited w t a
 
+-- the result of a post to object o for this task
 abbrev pub posted_result : ℕ → Answer → Task → Finished
 posted_result o a t = posted_to t.waiting o a t
 
 -- To wake a task: it leaves its pend lists, its timeout is gone, and a result waits for it; where it is not suspended, it
 -- joins the ready list of its priority.
 
+-- the task waits no more, and this result waits for it
 abbrev pub answered_task : Finished → Task → Task
 answered_task f t = record t { waiting = No; answered = Some f }
 
@@ -101,6 +113,7 @@ woken_ready (suc n) p h x lists = lists
 abbrev pub unmatched : ℕ → List (ℕ × ℕ) → List (ℕ × ℕ)
 unmatched x matches = filter (λ m. not (m.0 == x)) matches
 
+-- the kernel after x is woken with this result
 abbrev pub wakes : Finished → ℕ → ℕ → Kernel → Kernel
 wakes f h x k =
     let t = task_at k x in
@@ -116,19 +129,23 @@ abbrev pub wakes_all : (Task → Finished) → ℕ → List ℕ → Kernel → K
 wakes_all f h [] k = k
 wakes_all f h (x ∷ xs) k = wakes_all f h xs (wakes (f (task_at k x)) h x k)
 
+-- x leaves the lists of these objects, one after another
 abbrev pub leave_blocks : ℕ → List ℕ → List Block
 leave_blocks x [] = []
 leave_blocks x (o ∷ os) = leave x o ∷ leave_blocks x os
 
+-- x joins the ready list of priority p, unless it is suspended
 abbrev pub ready_blocks : ℕ → ℕ → ℕ → ℕ → List Block
 ready_blocks zero x p h = readied x p h ∷ []
 ready_blocks (suc n) x p h = []
 
+-- the blocks of a wake
 abbrev pub wake_blocks : Kernel → ℕ → ℕ → List Block
 wake_blocks k h x =
     let t = task_at k x in
     leave_blocks x t.objects ++ ready_blocks t.suspended x t.prio h
 
+-- the blocks of several wakes
 abbrev pub wakes_blocks : Kernel → ℕ → List ℕ → List Block
 wakes_blocks k h [] = []
 wakes_blocks k h (x ∷ xs) = wake_blocks k h x ++ wakes_blocks k h xs
@@ -137,6 +154,7 @@ wakes_blocks k h (x ∷ xs) = wake_blocks k h x ++ wakes_blocks k h xs
 abbrev pub wake_cost : Task → ℕ
 wake_cost t = 2 * length t.objects + (if is_zero t.suspended then 3 else 0)
 
+-- of several tasks
 abbrev pub wakes_cost : Kernel → List ℕ → ℕ
 wakes_cost k [] = 0
 wakes_cost k (x ∷ xs) = wake_cost (task_at k x) + wakes_cost k xs
@@ -162,12 +180,15 @@ pub record Wait : Type 0 where
   pub table : ℕ
   pub timeout : ℕ
 
+-- a wait that is not for event flags, and not for several objects
 abbrev pub waits_for : Waiting → List ℕ → ℕ → Wait
 waits_for waiting objects timeout = record { waiting = waiting; objects = objects; mask = 0; opt = 0; table = 0; timeout = timeout }
 
+-- the task waits so
 abbrev pub waiting_task : Wait → Task → Task
 waiting_task w t = record t { waiting = w.waiting; objects = w.objects; mask = w.mask; opt = w.opt; table = w.table }
 
+-- the match of a new timeout, and none where the timeout is 0
 abbrev pub new_match : ℕ → ℕ → ℕ → List (ℕ × ℕ)
 new_match x zero ticks = []
 new_match x (suc n) ticks = (x, (ticks + suc n) % 2 ^ 32) ∷ []
@@ -178,6 +199,7 @@ stands_in prio x p [] lists = lists
 stands_in prio x p (o ∷ os) lists =
     stands_in prio x p os (update_list lists o (λ xs. insert xs (wait_place prio p xs) x))
 
+-- the kernel after the caller x waits so
 abbrev pub blocked : Kernel → ℕ → Wait → Kernel
 blocked k x w =
     let p = prio_of k x in
@@ -188,13 +210,16 @@ blocked k x w =
       matches = k.matches ++ new_match x w.timeout k.ticks;
     }
 
+-- x joins the waiters of these objects, one after another
 abbrev pub wait_blocks : (ℕ → ℕ) → ℕ → ℕ → List ℕ → List Block
 wait_blocks prio x p [] = []
 wait_blocks prio x p (o ∷ os) = wait prio x p o ∷ wait_blocks prio x p os
 
+-- the blocks of a caller that blocks
 abbrev pub block_blocks : Kernel → ℕ → List ℕ → List Block
 block_blocks k x objects = let p = prio_of k x in unready x p ∷ wait_blocks (prio_of k) x p objects
 
+-- the caller x waits so
 abbrev pub blocks_on : Kernel → ℕ → Wait → Effect
 blocks_on k x w = record { kernel = blocked k x w; outcome = Waits; blocks = block_blocks k x w.objects }
 

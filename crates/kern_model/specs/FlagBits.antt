@@ -6,6 +6,7 @@ use Rattle.std.specs.Prelude.{ℕ, ◌-◌, ◌^◌, Bool, not, Option, Some, No
 abbrev pub turned : ℕ → ℕ
 turned bits = 2 ^ 32 - 1 - bits
 
+-- whether an option has this bit
 abbrev pub has_bit : ℕ → ℕ → Bool
 has_bit opt bit = not (bit_and opt bit == 0)
 

@@ -87,9 +87,11 @@ unready x p l = LeaveForward (Ready p) x ∷ LeaveBack (Ready p) x ∷ []
 abbrev pub join_place : ℕ → ℕ → List ℕ → ℕ
 join_place p h xs = if p == h then length xs else 0
 
+-- the place at the tail
 abbrev pub at_tail : List ℕ → ℕ
 at_tail xs = length xs
 
+-- the place at the head
 abbrev pub at_head : List ℕ → ℕ
 at_head xs = 0
 
@@ -99,6 +101,7 @@ readied_at place x p l =
     let i = place (list_at l.ready p) in
     JoinForward (Ready p) x i ∷ JoinBack (Ready p) x i ∷ Mark p ∷ []
 
+-- the task joins its ready list, where the compared priority says
 abbrev pub readied : ℕ → ℕ → ℕ → Block
 readied x p h = readied_at (join_place p h) x p
 

@@ -17,6 +17,7 @@ abbrev pub sem_post_to : List ℕ → ℕ → ℕ → ℕ → ℕ → Kernel →
 sem_post_to [] n o opt h k = sem_counts_up n o k
 sem_post_to (x ∷ xs) n o opt h k = woken (posted_result o (fine 0)) (fine 0) h (chosen (opt == 2) (x ∷ xs)) k
 
+-- OSSemPost on what an object holds
 abbrev pub sem_post : Content → Request → ℕ → Kernel → Effect
 sem_post (Count n) r h k = sem_post_to (list_at k.pend (argument r 0)) n (argument r 0) (argument r 1) h k
 sem_post content r h k = refused k ObjectType

@@ -51,6 +51,7 @@ pub data Content : Type 0 where
   Held : Option ℕ → ℕ → Content
   Timed : Timer → Content
 
+-- An object: what it holds, and whether it was deleted.
 pub record Object : Type 0 where
   pub content : Content
   pub deleted : Bool
@@ -89,9 +90,11 @@ pub record Kernel : Type 0 where
 abbrev pub tick_task : ℕ
 tick_task = 60
 
+-- the timer task
 abbrev pub timer_task : ℕ
 timer_task = 61
 
+-- the idle task
 abbrev pub idle_task : ℕ
 idle_task = 62
 
@@ -121,31 +124,39 @@ abbrev pub place_of : ℕ → List ℕ → ℕ
 place_of x [] = 0
 place_of x (y ∷ ys) = if y == x then 0 else 1 + place_of x ys
 
+-- what stands at a number without a task
 abbrev pub no_task : Task
 no_task = record { base = 63; prio = 63; alive = false; waiting = No; objects = []; mask = 0; opt = 0; table = 0; suspended = 0; count = 0; messages = []; limit = 0; quantum = 0; full = 0; answered = None }
 
+-- what stands at a number without an object
 abbrev pub no_object : Object
 no_object = record { content = Count 0; deleted = true }
 
+-- the task of a number
 abbrev pub task_at : Kernel → ℕ → Task
 task_at k x = slice_index_or k.tasks x no_task
 
+-- the object of a number
 abbrev pub object_at : Kernel → ℕ → Object
 object_at k o = slice_index_or k.objects o no_object
 
+-- the present priority of a task
 abbrev pub prio_of : Kernel → ℕ → ℕ
 prio_of k x = (task_at k x).prio
 
+-- the tasks with f of the one at x in its place
 abbrev pub update_task : List Task → ℕ → (Task → Task) → List Task
 update_task tasks x f = slice_set tasks x (f (slice_index_or tasks x no_task))
 
+-- the objects with f of the one at o in its place
 abbrev pub update_object : List Object → ℕ → (Object → Object) → List Object
 update_object objects o f = slice_set objects o (f (slice_index_or objects o no_object))
 
--- the kernel with this change of one task, or with this content of one object
+-- the kernel with this change of one task
 abbrev pub with_task : Kernel → ℕ → (Task → Task) → Kernel
 with_task k x f = record k { tasks = update_task k.tasks x f }
 
+-- the kernel with this content of one object
 abbrev pub with_content : Kernel → ℕ → Content → Kernel
 with_content k o content = record k { objects = update_object k.objects o (λ b. record b { content = content }) }
 
@@ -161,10 +172,12 @@ kind_of (Timed t) = if t.periodic then Periodic else OneShot
 abbrev pub kinds_of : Kernel → KindTable
 kinds_of k = record { objects = map (λ b. kind_of b.content) k.objects; tasks = k.settings.tasks }
 
+-- whether a number is 0
 abbrev pub is_zero : ℕ → Bool
 is_zero zero = true
 is_zero (suc n) = false
 
+-- whether a task does not wait
 abbrev pub waits_for_nothing : Waiting → Bool
 waits_for_nothing No = true
 waits_for_nothing Delay = false

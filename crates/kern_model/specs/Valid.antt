@@ -2,8 +2,10 @@
 use Rattle.std.specs.Prelude.{◌≡◌, ◌≢◌, ◌⊎◌, ◌<◌, ◌≤◌, All, ℕ, ◌^◌, Bool, true, false, not, ◌&&◌, List, [], ◌∷◌, length, Option, Some, None, if◌then◌else◌, ◌==◌, map}
 use Rattle.kern_base.specs.declared.outcomes.Waiting.TheVariants.{No, Signal}
 use Rattle.kern_base.specs.declared.outcomes.Finished.{Finished}
+use Rattle.kern_model.specs.Inherit.{inherited}
 use Rattle.kern_model.specs.State.{Kernel, Task, Content, Count, Messages, Bits, Held, Timed, list_at, task_at, object_at, prio_of, count_of, is_ready, is_zero, waits_for_nothing}
 
+-- 1 where a test holds, else 0
 abbrev pub one_if : Bool → ℕ
 one_if b = if b then 1 else 0
 
@@ -11,19 +13,17 @@ one_if b = if b then 1 else 0
 abbrev pub IsWord : ℕ → Type 0
 IsWord n = n < 2 ^ 32
 
+-- whether a result waits
 abbrev pub has_result : Option Finished → Bool
 has_result None = false
 has_result (Some f) = true
-
-abbrev pub IsResult : Option Finished → Type 0
-IsResult None = Unit {0}
-IsResult (Some f) = IsWord f.answer.value
 
 -- What holds of each task, where there are n objects.
 pub record IsTask (n : ℕ) (t : Task) : Type 0 where
   -- priorities are 1 to 63
   pub prio_from : 1 ≤ t.prio
   pub prio_to : t.prio ≤ 63
+  pub base_from : 1 ≤ t.base
   -- it waits for at most 8 objects, all different
   pub objects : All (λ o. o < n) t.objects
   pub few : length t.objects ≤ 8
@@ -34,14 +34,12 @@ pub record IsTask (n : ℕ) (t : Task) : Type 0 where
   pub reads : waits_for_nothing t.waiting ≡ false → has_result t.answered ≡ false
   pub suspended : t.suspended ≤ 250
   pub count : IsWord t.count
-  -- the value of the result that waits for it is a word
-  pub result : IsResult t.answered
 
 -- what holds of an object's numbers
 abbrev pub IsContent : Content → Type 0
 IsContent (Count n) = IsWord n
 IsContent (Messages limit ms) = length ms ≤ limit
-IsContent (Bits bits) = IsWord bits
+IsContent (Bits bits) = Unit {0}
 IsContent (Held owner nesting) = nesting ≤ 250
 IsContent (Timed t) = IsWord t.delay × IsWord t.period
 
@@ -49,6 +47,7 @@ IsContent (Timed t) = IsWord t.delay × IsWord t.period
 abbrev pub matched : List (ℕ × ℕ) → List ℕ
 matched matches = map (λ m. m.0) matches
 
+-- What the kernel keeps true.
 pub record IsValid (k : Kernel) : Type 0 where
   -- there are 64 records of tasks, 64 ready lists, and a list of waiters for each of at most 64 objects
   pub tasks : length k.tasks ≡ 64
@@ -73,6 +72,7 @@ pub record IsValid (k : Kernel) : Type 0 where
   pub idle : is_ready (task_at k 62) ≡ true
   pub idle_prio : prio_of k 62 ≡ 63
   pub above_idle : (x : ℕ) → x ≢ 62 → (task_at k x).alive ≡ true → prio_of k x ≤ 62
+  pub bases : (x : ℕ) → x ≢ 62 → (task_at k x).alive ≡ true → (task_at k x).base ≤ 62
   -- the tick task and the timer task live, are not suspended, and wait exactly where there is nothing for them to do
   pub tick_lives : ((task_at k 60).alive ≡ true) × ((task_at k 60).suspended ≡ 0)
   pub timer_lives : ((task_at k 61).alive ≡ true) × ((task_at k 61).suspended ≡ 0)
@@ -95,3 +95,7 @@ MayCall x k =
 abbrev pub AllWait : Kernel → List ℕ → Type 0
 AllWait k [] = Unit {0}
 AllWait k (x ∷ xs) = (x < 60) × (waits_for_nothing (task_at k x).waiting ≡ false) × (count_of x xs ≡ 0) × AllWait k xs
+
+-- Where no whole step is in hand, the present priority of each living application task and of the timer task is inherited.
+abbrev pub IsInherited : Kernel → Type 0
+IsInherited k = (x : ℕ) → (x < 60) ⊎ (x ≡ 61) → (task_at k x).alive ≡ true → prio_of k x ≡ inherited k x

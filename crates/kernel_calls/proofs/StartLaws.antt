@@ -176,6 +176,7 @@ module _ (i : ImageRecord) (v : IsValidImage i) where
       record {
         prio_from = low;
         prio_to = high;
+        base_from = low;
         objects = All-nil (λ o. o < m);
         few = omega arith;
         different = λ o. omega arith;
@@ -183,7 +184,6 @@ module _ (i : ImageRecord) (v : IsValidImage i) where
         reads = λ h. refl;
         suspended = omega arith;
         count = omega arith;
-        result = tt;
       }
 
   none_valid : (m : ℕ) → IsTask m no_task
@@ -191,6 +191,7 @@ module _ (i : ImageRecord) (v : IsValidImage i) where
       record {
         prio_from = omega arith;
         prio_to = omega arith;
+        base_from = omega arith;
         objects = All-nil (λ o. o < m);
         few = omega arith;
         different = λ o. omega arith;
@@ -198,7 +199,6 @@ module _ (i : ImageRecord) (v : IsValidImage i) where
         reads = λ h. refl;
         suspended = omega arith;
         count = omega arith;
-        result = tt;
       }
 
   prio_of_def : (x : ℕ) → x < length i.tasks → (1 ≤ (get_or i.tasks x blank_def).prio) × ((get_or i.tasks x blank_def).prio ≤ 62)
@@ -232,6 +232,10 @@ module _ (i : ImageRecord) (v : IsValidImage i) where
   task_above =
       each (λ x t. x ≢ 62 → t.alive ≡ true → t.prio ≤ 62) (λ x h d a. (prio_of_def x h).1) (λ x l h d a. absurd (false≢true a)) (λ d a. v.config.tick_prio_high) (λ d a. v.config.tmr_prio_high) (λ d a. absurd (d refl)) (λ x h d a. absurd (false≢true a))
 
+  task_bases : (x : ℕ) → x ≢ 62 → (get_or (start_tasks i) x no_task).alive ≡ true → (get_or (start_tasks i) x no_task).base ≤ 62
+  task_bases =
+      each (λ x t. x ≢ 62 → t.alive ≡ true → t.base ≤ 62) (λ x h d a. (prio_of_def x h).1) (λ x l h d a. absurd (false≢true a)) (λ d a. v.config.tick_prio_high) (λ d a. v.config.tmr_prio_high) (λ d a. absurd (d refl)) (λ x h d a. absurd (false≢true a))
+
   empty_pend : (m o : ℕ) → list_at (replicate m []) o ≡ []
   empty_pend m o =
       elim (cases_lt o m) [
@@ -259,6 +263,7 @@ module _ (i : ImageRecord) (v : IsValidImage i) where
         idle = ap is_ready (at-internal 62 2 refl (omega arith));
         idle_prio = ap (λ (t : Task). t.prio) (at-internal 62 2 refl (omega arith));
         above_idle = task_above;
+        bases = task_bases;
         tick_lives = (ap (λ (t : Task). t.alive) (at-internal 60 0 refl (omega arith)), ap (λ (t : Task). t.suspended) (at-internal 60 0 refl (omega arith)));
         timer_lives = (ap (λ (t : Task). t.alive) (at-internal 61 1 refl (omega arith)), ap (λ (t : Task). t.suspended) (at-internal 61 1 refl (omega arith)));
         tick_waits = ap (λ (t : Task). t.waiting) (at-internal 60 0 refl (omega arith));

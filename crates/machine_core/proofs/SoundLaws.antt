@@ -33,8 +33,8 @@ use Rattle.kern_model.proofs.CostLaws.{cost-blocks}
 pub cost_some : (r : Request) (x c h : ℕ) (k : Kernel) → 0 < cost (effect program_serves r x c h k) k
 cost_some r x c h k = omega (arith, cost-blocks (effect program_serves r x c h k) k)
 
-pub cost_within : (r : Request) (x c h : ℕ) (k : Kernel) → IsValid k → cost (effect program_serves r x c h k) k ≤ most_micro_steps
-cost_within r x c h k v = omega (arith, cost-effect-le program_serves r x c h k v)
+pub cost_within : (r : Request) (x c h : ℕ) (k : Kernel) → IsValid k → MayCall x k → cost (effect program_serves r x c h k) k ≤ most_micro_steps
+cost_within r x c h k v m = omega (arith, cost-effect-le program_serves r x c h k v (λ _. m))
 
 still-same : (k j : Kernel) → SameBehind k j → IsStill k → IsStill j
 still-same k j h s =
@@ -109,15 +109,16 @@ calls-sound : (x : ℕ) (e : Execution) (m : Machine) → Rests m → x ≡ m.cu
 calls-sound x e m h current none who =
     let k = m.kernel in
     let r = request_of e.registers in
+    let may : MayCall x k = inl (who.0, who.1, rw none refl, h.sound.still.processing) in
     record {
       valid = h.sound.valid;
       still = h.sound.still;
       registers = length-kept m.registers x e.registers h.sound.registers;
       acts = record {
         caller = current;
-        may_call = inl (who.0, who.1, rw none refl, h.sound.still.processing);
+        may_call = may;
         open_yet = cost_some r x (prio_of k x) (prio_of k x) k;
-        within = cost_within r x (prio_of k x) (prio_of k x) k h.sound.valid;
+        within = cost_within r x (prio_of k x) (prio_of k x) k h.sound.valid may;
       };
       steps = refl;
       counted = omega (arith, h.counted);

@@ -1,5 +1,6 @@
 -- What the services leave as it was: the signals of the internal tasks, and the lock.
 use Rattle.std.proofs.Common.{◌≡◌, ℕ, zero, suc, List, [], ◌∷◌, refl, Bool, true, false, Option, Some, None}
+use Rattle.std.proofs.lemmas.Bool.{false≢true}
 use Rattle.std.specs.Prelude.{if◌then◌else◌, ◌==◌, ◌-◌, ◌+◌, ◌^◌}
 use Rattle.kern_base.specs.declared.services.Service.{Service}
 use Rattle.kern_base.specs.declared.services.Service.TheVariants.{SemPost, SemPend}
@@ -69,7 +70,7 @@ keeps-sem_pend (Timed t) r x k = same k
 keeps-row_of : (s : Service) (r : Request) (x c h : ℕ) (k : Kernel) → program_serves s ≡ true → Keeps k (row_of s r x c h k)
 keeps-row_of SemPost r x c h k e = keeps-sem_post (object_at k (argument r 0)).content r h k
 keeps-row_of SemPend r x c h k e = keeps-sem_pend (object_at k (argument r 0)).content r x k
-keeps-row_of _ r x c h k e = cc
+keeps-row_of _ r x c h k e = absurd (false≢true e)
 
 keeps-checked : (o : Option OsErr) (r : Request) (x c h : ℕ) (k : Kernel) → program_serves r.service ≡ true → Keeps k (after_checks o r x c h k)
 keeps-checked (Some err) r x c h k e = same k

@@ -25,7 +25,7 @@ pub invariant_of-self : goal.invariant_of-self
 invariant_of-self c =
     record {
       valid = subst IsValid (grind (arith, common_steps))
-          (valid-wakes (state_of c.self.inside) c.self.invariant.valid c.args.task c.requires.application semaphore_result c.args.head.0 (rw (← c.self.view_is) at c.requires.waits) (omega arith));
+          (valid-wakes (state_of c.self.inside) c.self.invariant.valid c.args.task c.requires.application semaphore_result c.args.head.0 (rw (← c.self.view_is) at c.requires.waits));
       served = served-task (state_of c.self.inside) _ c.args.task (answered_task semaphore_result) (omega (arith, c.self.invariant.valid.tasks)) c.answer_task.ensures.tasks (λ t h. tt) (λ t h. refl) c.self.invariant.served;
     }
 

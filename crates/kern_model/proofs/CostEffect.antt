@@ -1,0 +1,310 @@
+-- Every service and unit takes at most 32,000 micro-steps, and without a renewal of priorities at most 1,202.
+use Rattle.std.proofs.Common.{◌≡◌, ◌++◌, ℕ, suc, ◌<◌, ◌≤◌, ◌+◌, List, [], ◌∷◌, length, refl, sym, ap, subst, ◌∙◌, Bool, true, false, ◌&&◌, arith, Option, Some, None, map}
+use Rattle.std.specs.Prelude.{◌==◌, ◌-◌, ◌^◌, ◌%◌, nat_lt, nat_le, if◌then◌else◌, cond, filter}
+use Rattle.kern_base.specs.declared.services.Service.{Service}
+use Rattle.kern_base.specs.declared.services.Service.TheVariants.{SemPost, QPost, FlagPost, TaskSemPost, TaskQPost, TimeTick, SemPend, QPend, FlagPend, MutexPend, TaskSemPend, TaskQPend, PendMulti, MutexPost, SemPendAbort, QPendAbort, FlagPendAbort, MutexPendAbort, TaskSemPendAbort, TaskQPendAbort, SemDel, QDel, FlagDel, MutexDel, TimeDly, TimeDlyResume, TimeGet, TaskSuspend, TaskResume, TaskDel, RoundRobinYield, SchedLock, SchedUnlock, TmrStart, TmrStop, TmrRemainGet, TmrStateGet, TmrDel, TaskChangePrio, Unknown}
+use Rattle.kern_base.specs.declared.requests.Request.{Request}
+use Rattle.kern_base.specs.declared.errors.OsErr.{OsErr}
+use Rattle.kern_base.specs.declared.errors.OsErr.TheVariants.{SchedLocked, CallUnknown, Depth, MutexOwner, MutexNotOwner, MutexNesting, PrioInvalid}
+use Rattle.kern_base.specs.declared.outcomes.Waiting.TheVariants.{Obj}
+use Rattle.kern_base.specs.declared.outcomes.Finished.{Finished}
+use Rattle.kern_base.specs.declared.outcomes.Outcome.{Outcome}
+use Rattle.kern_base.specs.declared.outcomes.Outcome.TheVariants.{Gone, Quiet}
+use Rattle.kern_base.specs.declared.outcomes.UnitEnd.TheVariants.{Tick, TmrEnd}
+use Rattle.kern_model.specs.State.{Kernel, Task, Timer, TimerState, Running, Content, Held, Timed, list_at, task_at, prio_of, with_content, with_task, is_ready, waits_for_nothing, tick_task, timer_task}
+use Rattle.kern_model.specs.Micro.{Lists, after, in_order, lists_of, at_head, at_tail}
+use Rattle.kern_model.specs.Effect.{Effect, refused, done, answer, answers, fine, woken, leave_blocks, result_of, chosen, tail, blocks_on, waits_for}
+use Rattle.kern_model.specs.Checks.{argument, named_task, call_error}
+use Rattle.kern_model.specs.Semaphores.{sem_post, sem_pend}
+use Rattle.kern_model.specs.Queues.{q_post, q_pend}
+use Rattle.kern_model.specs.Flags.{flag_pend}
+use Rattle.kern_model.specs.Inherit.{renewing, waited_objects}
+use Rattle.kern_model.specs.Mutexes.{nests, mutex_pend, passes_to, released, mutex_post, mutex_aborts, mutex_deletes}
+use Rattle.kern_model.specs.Waiters.{aborts, deletes}
+use Rattle.kern_model.specs.TaskObjects.{task_sem_post_to, task_q_post_to, task_sem_pend_on, task_q_pend_on, task_abort, waits_for_semaphore, waits_for_queue}
+use Rattle.kern_model.specs.Several.{multi_error, multi_checked}
+use Rattle.kern_model.specs.Tasks.{unready_blocks, task_suspend, task_resume, task_ends, task_del, task_change_prio, sched_lock, sched_unlock}
+use Rattle.kern_model.specs.RoundRobin.{round_robin_yield}
+use Rattle.kern_model.specs.Time.{time_dly, resumes_delayed, time_tick, due, timed_out, waits_for_signal, ticked, tick_unit}
+use Rattle.kern_model.specs.Timers.{tmr_start, tmr_stop_in, tmr_stop, tmr_remain_get, tmr_state_get, tmr_del, timer_counts, timer_ends, timer_goes_on, timer_unit, due_timer}
+use Rattle.kern_model.specs.Services.{effect, after_checks, row_of, content_for, unit_effect, cost}
+use Rattle.kern_model.specs.Valid.{IsValid, MayCall}
+use Rattle.kern_model.proofs.LeadLaws.{choice, Leads, leads-blocks_on, leads-woken}
+use Rattle.kern_model.proofs.Tests.{choice_by, equal, at_most, and_first, and_second}
+use Rattle.kern_model.proofs.StepLaws.{leads-passes_to, leads-aborts, leads-deletes, leads-task_ends}
+use Rattle.std.proofs.lemmas.Bool.{false≢true, true≢false}
+use Rattle.kern_base.specs.declared.kinds.Kind.TheVariants.{Mutex}
+use Rattle.kern_base.specs.Checks.{is_post, kinds_wanted, names_task}
+use Rattle.kern_model.specs.Valid.{AllWait}
+use Rattle.kern_model.specs.Micro.{unready}
+use Rattle.kern_model.proofs.KeepLaws.{valid-plain}
+use Rattle.kern_model.proofs.StandLaws.{valid-task_ends}
+use Rattle.kern_model.proofs.ValidRows.{AllWait-chosen, valid-one_object, valid-passes_to, valid-aborts, valid-deletes}
+use Rattle.kern_model.proofs.ValidTasks.{tick_wakes, valid-tick_wakes}
+use Rattle.kern_model.proofs.ValidEffect.{checked_object, checked_task}
+use Rattle.kern_model.proofs.ChangeLaws.{length-pend, length-matches, AllWait-pend}
+use Rattle.kern_model.proofs.CostLaws.{takes_leaves, length-in_order-append}
+use Rattle.kern_model.proofs.TickLaws.{signals, wakes_all-signals, wakes_blocks-signals, renew_blocks-signals}
+use Rattle.kern_model.proofs.RenewLaws.{renew-le}
+use Rattle.kern_model.specs.Inherit.{renew_blocks}
+use Rattle.kern_model.specs.Effect.{wake_blocks, wakes_blocks}
+use Rattle.kern_model.specs.Micro.{Block}
+use Rattle.kern_model.proofs.CostRows.{Within, within-renewing_by, cost-within, within-more, within-woken, within-blocks_on, within-renewing, within-sem_post, within-sem_pend, within-q_post, within-q_pend, within-flag_post, within-flag_pend, within-aborts, within-deletes, within-task_sem_post_to, within-task_q_post_to, within-task_sem_pend_on, within-task_q_pend_on, within-task_abort, within-multi_checked, within-task_suspend, within-task_resume, within-sched_lock, within-sched_unlock, within-round_robin_yield, within-time_dly, within-resumes_delayed, within-time_tick, chosen-le}
+
+-- rows that renew priorities
+
+within-mutex_pend : (c : Content) (r : Request) (x : ℕ) (k : Kernel) → IsValid k → MayCall x k → argument r 0 < length k.objects → Within 31942 k (mutex_pend c r x k)
+within-mutex_pend (Held None nesting) r x k v m i = record { most = omega arith }
+within-mutex_pend (Held (Some y) nesting) r x k v m i =
+    let o = argument r 0 in
+    let w = waits_for (Obj MutexPend) (o ∷ []) (argument r 1) in
+    let e = blocks_on k x w in
+    choice (Within 31942 k) (y == x) (nests o x nesting k) (tail k (argument r 2 == 1) (renewing at_head e))
+    (choice (Within 31942 k) (nesting == 250) (refused k Depth) (done (with_content k o (Held (Some x) (nesting + 1))) (answer MutexOwner (nesting + 1))) (record { most = omega arith }) (record { most = omega arith }))
+    (by_lock (argument r 2 == 1) (λ l. within-more (562 + 30744) 31942 k (renewing at_head e) (omega arith) (within-renewing 562 at_head k e (leads-blocks_on k x w) (valid-one_object k v x m l MutexPend o (argument r 1) i) (within-blocks_on k v x w (omega arith)))))
+  where
+    by_lock : (b : Bool) → (k.lock ≡ 0 → Within 31942 k (renewing at_head (blocks_on k x (waits_for (Obj MutexPend) (argument r 0 ∷ []) (argument r 1))))) → Within 31942 k (tail k b (renewing at_head (blocks_on k x (waits_for (Obj MutexPend) (argument r 0 ∷ []) (argument r 1)))))
+    by_lock true h = record { most = omega arith }
+    by_lock false h =
+        choice_by (Within 31942 k) (k.lock == 0) (renewing at_head (blocks_on k x (waits_for (Obj MutexPend) (argument r 0 ∷ []) (argument r 1)))) (refused k SchedLocked) (λ s. h (equal k.lock 0 s)) (λ s. record { most = omega arith })
+within-mutex_pend _ r x k v m i = record { most = omega arith }
+
+within-passes_to : (xs : List ℕ) (o h : ℕ) (k : Kernel) → IsValid k → Within 1140 k (passes_to xs o h k)
+within-passes_to [] o h k v = record { most = omega arith }
+within-passes_to (x ∷ xs) o h k v = record { most = Within.most (within-woken (result_of (fine 1)) (fine 0) h (x ∷ []) k v (omega arith)) }
+
+within-released : (nesting : ℕ) (r : Request) (x h : ℕ) (k : Kernel) → IsValid k → Within 31942 k (released nesting r x h k)
+within-released nesting r x h k v =
+    let o = argument r 0 in
+    let xs = list_at k.pend o in
+    let e = passes_to xs o h k in
+    choice (Within 31942 k) (nat_lt 1 nesting) (done (with_content k o (Held (Some x) (nesting - 1))) (answer MutexNesting (nesting - 1))) (renewing at_tail e) (record { most = omega arith })
+    (within-more (1140 + 30744) 31942 k (renewing at_tail e) (omega arith) (within-renewing 1140 at_tail k e (leads-passes_to xs o h k) (valid-passes_to xs o h k v (AllWait-pend k v o)) (within-passes_to xs o h k v)))
+
+within-mutex_post : (c : Content) (r : Request) (x h : ℕ) (k : Kernel) → IsValid k → Within 31942 k (mutex_post c r x h k)
+within-mutex_post (Held None nesting) r x h k v = record { most = omega arith }
+within-mutex_post (Held (Some y) nesting) r x h k v =
+    choice (Within 31942 k) (y == x) (released nesting r x h k) (refused k MutexNotOwner) (within-released nesting r x h k v) (record { most = omega arith })
+within-mutex_post _ r x h k v = record { most = omega arith }
+
+within-mutex_aborts : (xs : List ℕ) (h : ℕ) (k : Kernel) → IsValid k → AllWait k xs → length xs ≤ 60 → Within 31942 k (mutex_aborts xs h k)
+within-mutex_aborts [] h k v w l = record { most = omega arith }
+within-mutex_aborts (x ∷ xs) h k v w l =
+    let e = aborts (x ∷ xs) h k in
+    within-more (1140 + 30744) 31942 k (renewing at_tail e) (omega arith) (within-renewing 1140 at_tail k e (leads-aborts (x ∷ xs) h k) (valid-aborts (x ∷ xs) h k v w) (within-aborts (x ∷ xs) h k v l))
+
+within-mutex_deletes : (all : Bool) (xs : List ℕ) (o h : ℕ) (k : Kernel) → IsValid k → AllWait k xs → length xs ≤ 60 → Within 31942 k (mutex_deletes all xs o h k)
+within-mutex_deletes false (x ∷ xs) o h k v w l = record { most = omega arith }
+within-mutex_deletes false [] o h k v w l =
+    let e = deletes false [] o h k in
+    within-more (1140 + 30744) 31942 k (renewing at_tail e) (omega arith) (within-renewing 1140 at_tail k e (leads-deletes false [] o h k) (valid-deletes false [] o h k v w) (within-deletes false [] o h k v l))
+within-mutex_deletes true xs o h k v w l =
+    let e = deletes true xs o h k in
+    within-more (1140 + 30744) 31942 k (renewing at_tail e) (omega arith) (within-renewing 1140 at_tail k e (leads-deletes true xs o h k) (valid-deletes true xs o h k v w) (within-deletes true xs o h k v l))
+
+unready-le : (b : Bool) (x p : ℕ) (l : Lists) → length (in_order (unready_blocks b x p) l) ≤ 2
+unready-le false x p l = omega arith
+unready-le true x p l = omega arith
+
+within-task_ends : (o : Outcome) (x : ℕ) (k : Kernel) → IsValid k → Within 18 k (task_ends o x k)
+within-task_ends o x k v =
+    let t = task_at k x in
+    let bs = unready_blocks (is_ready t) x t.prio in
+    record { most = omega (arith, length-in_order-append bs (leave_blocks x (waited_objects t)) (lists_of k), unready-le (is_ready t) x t.prio (lists_of k), takes_leaves x (waited_objects t) (after (in_order bs (lists_of k)) (lists_of k)), few (waits_for_nothing t.waiting)) }
+  where
+    few : (b : Bool) → length (if b then [] else (task_at k x).objects) ≤ 8
+    few true = omega arith
+    few false = (v.each_task x).few
+
+within-task_del : (r : Request) (x : ℕ) (k : Kernel) → IsValid k → named_task r x < 60 → Within 31942 k (task_del r x k)
+within-task_del r x k v l =
+    let y = named_task r x in
+    let o : Outcome = if y == x then Gone else answers (fine 0) in
+    let e = task_ends o y k in
+    choice (Within 31942 k) ((y == x) && nat_lt 0 k.lock) (refused k SchedLocked) (renewing at_tail e) (record { most = omega arith })
+    (within-more (18 + 30744) 31942 k (renewing at_tail e) (omega arith) (within-renewing 18 at_tail k e (leads-task_ends o y k) (valid-task_ends k v y l o) (within-task_ends o y k v)))
+
+within-task_change_prio : (r : Request) (x : ℕ) (k : Kernel) → IsValid k → Within 31942 k (task_change_prio r x k)
+within-task_change_prio r x k v =
+    let p = argument r 1 in
+    let y = named_task r x in
+    let e = done (with_task k y (λ t. record t { base = p })) (fine 0) in
+    choice_by (Within 31942 k) (nat_le 1 p && nat_le p 62) (renewing at_tail e) (refused k PrioInvalid)
+    (λ s. within-more (0 + 30744) 31942 k (renewing at_tail e) (omega arith) (within-renewing 0 at_tail k e (record { lists = refl })
+    (valid-plain k y (λ t. record t { base = p }) (λ t. refl) (at_most 1 p (and_first (nat_le 1 p) (nat_le p 62) s)) (v.each_task y).count (λ b. at_most p 62 (and_second (nat_le 1 p) (nat_le p 62) s)) v) (record { most = omega arith })))
+    (λ s. record { most = omega arith })
+
+-- the units
+
+length-due : (tick : ℕ) (ms : List (ℕ × ℕ)) → length (due tick ms) ≤ length ms
+length-due tick [] = omega arith
+length-due tick (m ∷ ms) = by_case (m.1 == tick) (length-due tick ms)
+  where
+    by_case : (b : Bool) → length (due tick ms) ≤ length ms → length (map (λ m. m.0) (cond b (m ∷ filter (λ m. m.1 == tick) ms) (filter (λ m. m.1 == tick) ms))) ≤ suc (length ms)
+    by_case true h = omega (arith, h)
+    by_case false h = omega (arith, h)
+
+within-ticked : (k : Kernel) → IsValid k → Within 31884 k (ticked k)
+within-ticked k v =
+    let tick = (k.ticks + 1) % 2 ^ 32 in
+    let i : Kernel = record k { ticks = tick } in
+    let j = signals i (k.tick_signals - 1) in
+    let xs = due tick k.matches in
+    let h = prio_of k tick_task in
+    let f : Task → Finished = λ t. timed_out t.waiting t in
+    let e = woken f (fine 0) h xs j in
+    let g : Effect = record { kernel = e.kernel; outcome = Quiet (Tick tick); blocks = e.blocks } in
+    let few : length xs ≤ 60 = omega (arith, length-due tick k.matches, length-matches k v) in
+    let renews : length (in_order (renew_blocks at_tail e.kernel) (lists_of e.kernel)) ≤ 30744 =
+    subst (λ (t : Kernel). length (in_order (renew_blocks at_tail t) (lists_of t)) ≤ 30744) (sym (wakes_all-signals f h xs i (k.tick_signals - 1)))
+    (subst (λ bs. length (in_order bs (lists_of (tick_wakes k))) ≤ 30744) (sym (renew_blocks-signals at_tail (tick_wakes k) (k.tick_signals - 1))) (renew-le at_tail (tick_wakes k) (valid-tick_wakes k v))) in
+    let wakes : length (in_order (wakes_blocks j h xs) (lists_of k)) ≤ 1140 =
+    subst (λ bs. length (in_order bs (lists_of k)) ≤ 1140) (sym (wakes_blocks-signals h xs i (k.tick_signals - 1) ∙ same_blocks h xs)) (Within.most (within-woken f (fine 0) h xs k v few)) in
+    within-renewing_by 1140 at_tail k g (record { lists = Leads.lists (leads-woken f (fine 0) h xs j) }) renews (record { most = wakes })
+  where
+    same_blocks : (h : ℕ) (xs : List ℕ) → wakes_blocks (record k { ticks = (k.ticks + 1) % 2 ^ 32 }) h xs ≡ wakes_blocks k h xs
+    same_blocks h [] = refl
+    same_blocks h (x ∷ xs) = ap (λ (bs : List Block). wake_blocks k h x ++ bs) (same_blocks h xs)
+
+within-waits_for_signal : (n x : ℕ) (k : Kernel) (e : Effect) → Within n k e → Within (n + 2) k (waits_for_signal x e)
+within-waits_for_signal n x k e w =
+    let p = prio_of e.kernel x in
+    record { most = omega (arith, length-in_order-append e.blocks (unready x p ∷ []) (lists_of k), w.most) }
+
+within-tick_unit : (k : Kernel) → IsValid k → Within 31998 k (tick_unit k)
+within-tick_unit k v =
+    let t = within-ticked k v in
+    choice (Within 31998 k) (k.tick_signals == 1) (waits_for_signal tick_task (ticked k)) (ticked k)
+    (within-more (31884 + 2) 31998 k (waits_for_signal tick_task (ticked k)) (omega arith) (within-waits_for_signal 31884 tick_task k (ticked k) t))
+    (within-more 31884 31998 k (ticked k) (omega arith) t)
+
+within-timer_ends : (k : Kernel) → Within 31998 k (timer_ends k)
+within-timer_ends k =
+    let e : Effect = record { kernel = record k { lock = 0; processing = false }; outcome = Quiet TmrEnd; blocks = [] } in
+    choice (Within 31998 k) (k.timer_signals == 0) (waits_for_signal timer_task e) e (record { most = omega arith }) (record { most = omega arith })
+
+within-timer_goes_on : (o : Option ℕ) (k : Kernel) → Within 31998 k (timer_goes_on o k)
+within-timer_goes_on (Some o) k = record { most = omega arith }
+within-timer_goes_on None k = within-timer_ends k
+
+within-timer_unit : (k : Kernel) → Within 31998 k (timer_unit k)
+within-timer_unit k =
+    choice (Within 31998 k) k.processing (timer_goes_on (due_timer k.timer_count k.timer_matches) k) (timer_counts k) (within-timer_goes_on (due_timer k.timer_count k.timer_matches) k) (record { most = omega arith })
+
+within-tmr_stop_in : (s : TimerState) (t : Timer) (o : ℕ) (k : Kernel) → Within 1198 k (tmr_stop_in s t o k)
+within-tmr_stop_in Running t o k = record { most = omega arith }
+within-tmr_stop_in _ t o k = record { most = omega arith }
+
+within-timer_row : (s : Service) (c : Content) (r : Request) (k : Kernel) → Within 1198 k (tmr_start c r k) × Within 1198 k (tmr_stop c r k) × Within 1198 k (tmr_remain_get c r k) × Within 1198 k (tmr_state_get c k) × Within 1198 k (tmr_del c r k)
+within-timer_row s (Timed t) r k =
+    (record { most = omega arith }, within-tmr_stop_in t.state t (argument r 0) k, record { most = omega arith }, record { most = omega arith }, record { most = omega arith })
+within-timer_row s _ r k = (record { most = omega arith }, record { most = omega arith }, record { most = omega arith }, record { most = omega arith }, record { most = omega arith })
+
+-- the services that renew priorities
+abbrev pub renews : Service → Bool
+renews MutexPend = true
+renews MutexPost = true
+renews MutexPendAbort = true
+renews MutexDel = true
+renews TaskDel = true
+renews TaskChangePrio = true
+renews _ = false
+
+few-chosen : (k : Kernel) → IsValid k → (r : Request) → length (chosen (argument r 1 == 1) (list_at k.pend (argument r 0))) ≤ 60
+few-chosen k v r = omega (arith, chosen-le (argument r 1 == 1) (list_at k.pend (argument r 0)), length-pend k v (argument r 0))
+
+quick-row_of : (s : Service) (r : Request) (x c h : ℕ) (k : Kernel) → IsValid k → renews s ≡ false → Within 1200 k (row_of s r x c h k)
+quick-row_of s r x c h k v q = by_service s q
+  where
+    up : (e : Effect) → Within 1198 k e → Within 1200 k e
+    up e w = within-more 1198 1200 k e (omega arith) w
+
+    up_woken : (e : Effect) → Within 1140 k e → Within 1200 k e
+    up_woken e w = within-more 1140 1200 k e (omega arith) w
+
+    by_service : (s : Service) → renews s ≡ false → Within 1200 k (row_of s r x c h k)
+    by_service SemPost q = up (sem_post (content_for r k) r h k) (within-sem_post (content_for r k) r h k v)
+    by_service QPost q = up (q_post (content_for r k) r h k) (within-q_post (content_for r k) r h k v)
+    by_service FlagPost q = within-flag_post (content_for r k) r h k v
+    by_service TaskSemPost q = let y = named_task r x in up (task_sem_post_to (task_at k y).waiting y h k) (within-task_sem_post_to (task_at k y).waiting y h k v)
+    by_service TaskQPost q = let y = named_task r x in up (task_q_post_to (task_at k y).waiting r y h k) (within-task_q_post_to (task_at k y).waiting r y h k v)
+    by_service TimeTick q = up (time_tick c h k) (within-time_tick c h k)
+    by_service SemPend q = up (sem_pend (content_for r k) r x k) (within-sem_pend (content_for r k) r x k v)
+    by_service QPend q = up (q_pend (content_for r k) r x k) (within-q_pend (content_for r k) r x k v)
+    by_service FlagPend q = up (flag_pend (content_for r k) r x k) (within-flag_pend (content_for r k) r x k v)
+    by_service TaskSemPend q = up (task_sem_pend_on (task_at k x).count r x k) (within-task_sem_pend_on (task_at k x).count r x k v)
+    by_service TaskQPend q = up (task_q_pend_on (task_at k x).messages r x k) (within-task_q_pend_on (task_at k x).messages r x k v)
+    by_service PendMulti q = up (multi_checked (multi_error r k) r x k) (within-multi_checked (multi_error r k) r x k refl v)
+    by_service SemPendAbort q = let xs = chosen (argument r 1 == 1) (list_at k.pend (argument r 0)) in up_woken (aborts xs h k) (within-aborts xs h k v (few-chosen k v r))
+    by_service QPendAbort q = let xs = chosen (argument r 1 == 1) (list_at k.pend (argument r 0)) in up_woken (aborts xs h k) (within-aborts xs h k v (few-chosen k v r))
+    by_service FlagPendAbort q = let xs = chosen (argument r 1 == 1) (list_at k.pend (argument r 0)) in up_woken (aborts xs h k) (within-aborts xs h k v (few-chosen k v r))
+    by_service TaskSemPendAbort q = up (task_abort waits_for_semaphore r x h k) (within-task_abort waits_for_semaphore r x h k v)
+    by_service TaskQPendAbort q = up (task_abort waits_for_queue r x h k) (within-task_abort waits_for_queue r x h k v)
+    by_service SemDel q = let xs = list_at k.pend (argument r 0) in up_woken (deletes (argument r 1 == 1) xs (argument r 0) h k) (within-deletes (argument r 1 == 1) xs (argument r 0) h k v (length-pend k v (argument r 0)))
+    by_service QDel q = let xs = list_at k.pend (argument r 0) in up_woken (deletes (argument r 1 == 1) xs (argument r 0) h k) (within-deletes (argument r 1 == 1) xs (argument r 0) h k v (length-pend k v (argument r 0)))
+    by_service FlagDel q = let xs = list_at k.pend (argument r 0) in up_woken (deletes (argument r 1 == 1) xs (argument r 0) h k) (within-deletes (argument r 1 == 1) xs (argument r 0) h k v (length-pend k v (argument r 0)))
+    by_service TimeDly q = up (time_dly r x k) (within-time_dly r x k v)
+    by_service TimeDlyResume q = let y = named_task r x in up (resumes_delayed (task_at k y).waiting y h k) (within-resumes_delayed (task_at k y).waiting y h k v)
+    by_service TimeGet q = record { most = omega arith }
+    by_service TaskSuspend q = up (task_suspend r x k) (within-task_suspend r x k)
+    by_service TaskResume q = up (task_resume r x h k) (within-task_resume r x h k)
+    by_service RoundRobinYield q = up (round_robin_yield x k) (within-round_robin_yield x k)
+    by_service SchedLock q = up (sched_lock k) (within-sched_lock k)
+    by_service SchedUnlock q = up (sched_unlock x k) (within-sched_unlock x k)
+    by_service TmrStart q = up (tmr_start (content_for r k) r k) (within-timer_row TmrStart (content_for r k) r k).0
+    by_service TmrStop q = up (tmr_stop (content_for r k) r k) (within-timer_row TmrStop (content_for r k) r k).1
+    by_service TmrRemainGet q = up (tmr_remain_get (content_for r k) r k) (within-timer_row TmrRemainGet (content_for r k) r k).2
+    by_service TmrStateGet q = up (tmr_state_get (content_for r k) k) (within-timer_row TmrStateGet (content_for r k) r k).3
+    by_service TmrDel q = up (tmr_del (content_for r k) r k) (within-timer_row TmrDel (content_for r k) r k).4
+    by_service (Unknown number) q = record { most = omega arith }
+    by_service _ q = absurd (true≢false q)
+
+slow-row_of : (s : Service) (r : Request) (x c h : ℕ) (k : Kernel) → s ≡ r.service → call_error r x k ≡ None → IsValid k → (is_post s ≡ false → MayCall x k) → renews s ≡ true → Within 31942 k (row_of s r x c h k)
+slow-row_of MutexPend r x c h k e checked v m q = within-mutex_pend (content_for r k) r x k v (m refl) (checked_object r x k Mutex [] (ap kinds_wanted (sym e)) checked)
+slow-row_of MutexPost r x c h k e checked v m q = within-mutex_post (content_for r k) r x h k v
+slow-row_of MutexPendAbort r x c h k e checked v m q =
+    let all = argument r 1 == 1 in
+    let xs = list_at k.pend (argument r 0) in
+    within-mutex_aborts (chosen all xs) h k v (AllWait-chosen k all xs (AllWait-pend k v (argument r 0))) (few-chosen k v r)
+slow-row_of MutexDel r x c h k e checked v m q =
+    within-mutex_deletes (argument r 1 == 1) (list_at k.pend (argument r 0)) (argument r 0) h k v (AllWait-pend k v (argument r 0)) (length-pend k v (argument r 0))
+slow-row_of TaskDel r x c h k e checked v m q = within-task_del r x k v (checked_task r x k v.application (ap kinds_wanted (sym e)) (ap names_task (sym e)) checked).inside
+slow-row_of TaskChangePrio r x c h k e checked v m q = within-task_change_prio r x k v
+slow-row_of _ r x c h k e checked v m q = absurd (false≢true q)
+
+within-row_of : (b : Bool) (r : Request) (x c h : ℕ) (k : Kernel) → renews r.service ≡ b → call_error r x k ≡ None → IsValid k → (is_post r.service ≡ false → MayCall x k) → Within 31998 k (row_of r.service r x c h k)
+within-row_of false r x c h k q checked v m =
+    within-more 1200 31998 k (row_of r.service r x c h k) (omega arith) (quick-row_of r.service r x c h k v q)
+within-row_of true r x c h k q checked v m =
+    within-more 31942 31998 k (row_of r.service r x c h k) (omega arith) (slow-row_of r.service r x c h k refl checked v m q)
+
+within-after_checks : (a : Option OsErr) (r : Request) (x c h : ℕ) (k : Kernel) → call_error r x k ≡ a → IsValid k → (is_post r.service ≡ false → MayCall x k) → Within 31998 k (after_checks a r x c h k)
+within-after_checks (Some err) r x c h k e v m = record { most = omega arith }
+within-after_checks None r x c h k e v m = within-row_of (renews r.service) r x c h k refl e v m
+
+-- A whole step of a call takes at most 32,000 micro-steps.
+pub cost-effect-le : (served : Service → Bool) (r : Request) (x c h : ℕ) (k : Kernel) → IsValid k → (is_post r.service ≡ false → MayCall x k) → cost (effect served r x c h k) k ≤ 32000
+cost-effect-le served r x c h k v m =
+    omega (
+      arith,
+      cost-within 31998 k (effect served r x c h k)
+          (choice (Within 31998 k) (served r.service) (after_checks (call_error r x k) r x c h k) (refused k CallUnknown) (within-after_checks (call_error r x k) r x c h k refl v m) (record { most = omega arith })),
+    )
+
+quick-after_checks : (a : Option OsErr) (r : Request) (x c h : ℕ) (k : Kernel) → IsValid k → renews r.service ≡ false → Within 1200 k (after_checks a r x c h k)
+quick-after_checks (Some err) r x c h k v q = record { most = omega arith }
+quick-after_checks None r x c h k v q = quick-row_of r.service r x c h k v q
+
+-- Where the service renews no priorities, the blocks take at most 1,200.
+pub cost-quick-le : (served : Service → Bool) (r : Request) (x c h : ℕ) (k : Kernel) → IsValid k → renews r.service ≡ false → cost (effect served r x c h k) k ≤ 1202
+cost-quick-le served r x c h k v q =
+    omega (
+      arith,
+      cost-within 1200 k (effect served r x c h k)
+          (choice (Within 1200 k) (served r.service) (after_checks (call_error r x k) r x c h k) (refused k CallUnknown) (quick-after_checks (call_error r x k) r x c h k v q) (record { most = omega arith })),
+    )
+
+-- A unit of an internal task takes at most 32,000.
+pub cost-unit-le : (x : ℕ) (k : Kernel) → IsValid k → cost (unit_effect x k) k ≤ 32000
+cost-unit-le x k v =
+    omega (arith, cost-within 31998 k (unit_effect x k) (choice (Within 31998 k) (x == tick_task) (tick_unit k) (timer_unit k) (within-tick_unit k v) (within-timer_unit k)))

@@ -1,0 +1,305 @@
+-- Every service and unit keeps the kernel valid, row by row.
+use Rattle.std.proofs.Common.{◌≡◌, ◌≢◌, ℕ, zero, suc, ◌<◌, ◌≤◌, ◌+◌, ◌^◌, List, [], ◌∷◌, length, refl, ap, Bool, true, false, arith, inl, inr, Option, Some, None, length-append}
+use Rattle.std.specs.Prelude.{◌==◌, ◌-◌, nat_lt, nat_le, if◌then◌else◌}
+use Rattle.std.proofs.lemmas.List.{length-set}
+use Rattle.std.proofs.lemmas.List.Elements.{All-nil, All-cons}
+use Rattle.std.proofs.lemmas.Bool.{false≢true}
+use Rattle.kern_base.specs.declared.services.Service.{Service}
+use Rattle.kern_base.specs.declared.services.Service.TheVariants.{SemPend, QPend, FlagPend, MutexPend}
+use Rattle.kern_base.specs.declared.requests.Request.{Request}
+use Rattle.kern_base.specs.declared.errors.OsErr.{OsErr}
+use Rattle.kern_base.specs.declared.errors.OsErr.TheVariants.{SemOverflow, SchedLocked, Depth, MutexOwner, MutexNotOwner, MutexNesting, PendAbort, PendAbortSelf, ObjectDeleted, QueueMax, PoolEmpty}
+use Rattle.kern_base.specs.declared.outcomes.Waiting.{Waiting}
+use Rattle.kern_base.specs.declared.outcomes.Waiting.TheVariants.{Obj, TaskSem, TaskQ}
+use Rattle.kern_model.specs.State.{Kernel, Object, Content, Count, Messages, Bits, Held, Timed, list_at, task_at, object_at, with_content, with_task, update_object, count_of, is_ready, waits_for_nothing}
+use Rattle.kern_model.specs.Micro.{at_head, at_tail}
+use Rattle.kern_model.specs.FlagBits.{has_bit, ready_bits, bits_after, consumed}
+use Rattle.kern_model.specs.Effect.{Effect, Wait, refused, done, answer, fine, message, wakes_all, result_of, posted_result, chosen, tail, blocks_on, blocked, waits_for}
+use Rattle.kern_model.specs.Checks.{argument, named_task}
+use Rattle.kern_model.specs.Semaphores.{sem_post_to, sem_post, sem_pend}
+use Rattle.kern_model.specs.Queues.{stored, store_error, store_in, q_post_to, q_post, q_pend}
+use Rattle.kern_model.specs.Flags.{flag_wakes, flag_wakes_all, flag_post, flag_pend_on, flag_pend}
+use Rattle.kern_model.specs.Inherit.{renewing}
+use Rattle.kern_model.specs.Mutexes.{nests, mutex_pend, passes_to, released, mutex_post, mutex_aborts, mutex_deletes}
+use Rattle.kern_model.specs.Waiters.{aborts, deletes, emptied, without_object, messages_in}
+use Rattle.kern_model.specs.TaskObjects.{task_counts_up, task_sem_post_to, task_store, task_q_post_to, task_sem_pend_on, task_q_pend_on, task_abort_of, task_abort, waits_for_semaphore, waits_for_queue}
+use Rattle.kern_model.specs.Valid.{IsValid, IsContent, IsWord, MayCall, AllWait, has_result}
+use Rattle.kern_model.proofs.Tests.{choice_by, equal, unequal, above, some≢none}
+use Rattle.kern_model.proofs.LeadLaws.{choice}
+use Rattle.kern_model.proofs.ValidLaws.{valid-wakes, valid-wakes_all, valid-blocked, AllWait-wakes}
+use Rattle.kern_model.proofs.ChangeLaws.{valid-objects, valid-with_content, update_object_keeps, AllWait-pend}
+use Rattle.kern_model.proofs.KeepLaws.{valid-plain, valid-free}
+use Rattle.kern_model.proofs.RenewLaws.{valid-renewing}
+
+abbrev pub ValidAfter : Effect → Type 0
+ValidAfter e = IsValid e.kernel
+
+-- who is woken of those that wait
+pub AllWait-chosen : (k : Kernel) (all : Bool) (xs : List ℕ) → AllWait k xs → AllWait k (chosen all xs)
+AllWait-chosen k all [] w = w
+AllWait-chosen k true (x ∷ xs) w = w
+AllWait-chosen k false (x ∷ xs) w = (w.0, w.1, refl, tt)
+
+-- what a call may rest on that goes on only where the lock is 0
+pub valid-tail : (k : Kernel) (b : Bool) (e : Effect) → IsValid k → (k.lock ≡ 0 → ValidAfter e) → ValidAfter (tail k b e)
+valid-tail k true e v h = v
+valid-tail k false e v h = choice_by ValidAfter (k.lock == 0) e (refused k SchedLocked) (λ s. h (equal k.lock 0 s)) (λ s. v)
+
+-- with the lock 0 the caller is an application task
+pub caller_ready : (k : Kernel) → IsValid k → (x : ℕ) → MayCall x k → k.lock ≡ 0 → (x < 60) × (is_ready (task_at k x) ≡ true) × (has_result (task_at k x).answered ≡ false)
+caller_ready k v x (inl m) l = (m.0, m.1, m.2)
+caller_ready k v x (inr m) l = let locked : 0 < k.lock = v.locked (v.callback m.1) in absurd (omega arith)
+
+-- the caller waits for one object
+pub valid-waits_for_one : (k : Kernel) → IsValid k → (x : ℕ) → MayCall x k → k.lock ≡ 0 → (waiting : Waiting) → waits_for_nothing waiting ≡ false → (o mask opt timeout : ℕ) → o < length k.objects → IsValid (blocked k x (record { waiting = waiting; objects = o ∷ []; mask = mask; opt = opt; table = 0; timeout = timeout }))
+valid-waits_for_one k v x m l waiting some o mask opt timeout inside =
+    let c = caller_ready k v x m l in
+    valid-blocked k v x c.0 (record { waiting = waiting; objects = o ∷ []; mask = mask; opt = opt; table = 0; timeout = timeout }) c.1 c.2 some (All-cons (λ i. i < length k.objects) o [] inside (All-nil (λ i. i < length k.objects))) (omega arith) (λ i. once (o == i))
+  where
+    once : (b : Bool) → (if b then 1 else 0) + 0 ≤ 1
+    once true = omega arith
+    once false = omega arith
+
+pub valid-one_object : (k : Kernel) → IsValid k → (x : ℕ) → MayCall x k → k.lock ≡ 0 → (s : Service) (o timeout : ℕ) → o < length k.objects → IsValid (blocked k x (waits_for (Obj s) (o ∷ []) timeout))
+valid-one_object k v x m l s o timeout inside = valid-waits_for_one k v x m l (Obj s) refl o 0 0 timeout inside
+
+-- the caller waits for no object
+pub valid-no_object : (k : Kernel) → IsValid k → (x : ℕ) → MayCall x k → k.lock ≡ 0 → (waiting : Waiting) → waits_for_nothing waiting ≡ false → (timeout : ℕ) → IsValid (blocked k x (waits_for waiting [] timeout))
+valid-no_object k v x m l waiting some timeout =
+    let c = caller_ready k v x m l in
+    valid-blocked k v x c.0 (waits_for waiting [] timeout) c.1 c.2 some (All-nil (λ i. i < length k.objects)) (omega arith) (λ i. omega arith)
+
+-- semaphores
+
+pub valid-sem_post_to : (xs : List ℕ) (n o opt h : ℕ) (k : Kernel) → IsWord n → IsValid k → AllWait k xs → ValidAfter (sem_post_to xs n o opt h k)
+valid-sem_post_to [] n o opt h k word v w =
+    choice_by ValidAfter (n == 2 ^ 32 - 1) (refused k SemOverflow) (done (with_content k o (Count (n + 1))) (fine (n + 1))) (λ s. v)
+    (λ s. valid-with_content k o (Count (n + 1)) (next (unequal n (2 ^ 32 - 1) s)) v)
+  where
+    next : n ≢ 2 ^ 32 - 1 → IsWord (n + 1)
+    next d = omega (arith, word)
+valid-sem_post_to (x ∷ xs) n o opt h k word v w =
+    valid-wakes_all (posted_result o (fine 0)) h (chosen (opt == 2) (x ∷ xs)) k v (AllWait-chosen k (opt == 2) (x ∷ xs) w)
+
+pub valid-sem_post : (c : Content) (r : Request) (h : ℕ) (k : Kernel) → IsContent c → IsValid k → ValidAfter (sem_post c r h k)
+valid-sem_post (Count n) r h k c v = valid-sem_post_to (list_at k.pend (argument r 0)) n (argument r 0) (argument r 1) h k c v (AllWait-pend k v (argument r 0))
+valid-sem_post _ r h k c v = v
+
+pub valid-sem_pend : (c : Content) (r : Request) (x : ℕ) (k : Kernel) → IsContent c → IsValid k → MayCall x k → argument r 0 < length k.objects → ValidAfter (sem_pend c r x k)
+valid-sem_pend (Count zero) r x k c v m inside =
+    valid-tail k (argument r 2 == 1) (blocks_on k x (waits_for (Obj SemPend) (argument r 0 ∷ []) (argument r 1))) v
+    (λ l. valid-one_object k v x m l SemPend (argument r 0) (argument r 1) inside)
+valid-sem_pend (Count (suc n)) r x k c v m inside = valid-with_content k (argument r 0) (Count n) (omega (arith, c)) v
+valid-sem_pend _ r x k c v m inside = v
+
+-- queues
+
+-- there is room where a message can be stored
+store_room : (held limit free : ℕ) → store_error held limit free ≡ None → held < limit
+store_room held limit free h = by_test (nat_le limit held) refl h
+  where
+    by_test : (b : Bool) → nat_le limit held ≡ b → (if b then Some QueueMax else (if free == 0 then Some PoolEmpty else None)) ≡ None → held < limit
+    by_test true e h = absurd (some≢none QueueMax h)
+    by_test false e h = above limit held e
+
+pub length-stored : (b : Bool) (m : ℕ × ℕ) (ms : List (ℕ × ℕ)) → length (stored b m ms) ≡ length ms + 1
+length-stored true m ms = omega arith
+length-stored false m ms = length-append ms (m ∷ [])
+
+valid-store_in : (e : Option OsErr) (o limit : ℕ) (ms : List (ℕ × ℕ)) (k : Kernel) → (e ≡ None → length ms ≤ limit) → IsValid k → ValidAfter (store_in e o limit ms k)
+valid-store_in (Some err) o limit ms k h v = v
+valid-store_in None o limit ms k h v = valid-free (with_content k o (Messages limit ms)) (k.free - 1) (valid-with_content k o (Messages limit ms) (h refl) v)
+
+pub valid-q_post_to : (xs : List ℕ) (limit : ℕ) (ms : List (ℕ × ℕ)) (r : Request) (h : ℕ) (k : Kernel) → IsValid k → AllWait k xs → ValidAfter (q_post_to xs limit ms r h k)
+valid-q_post_to [] limit ms r h k v w =
+    let m : ℕ × ℕ = (argument r 1, argument r 2) in
+    let lifo = has_bit (argument r 3) 1 in
+    valid-store_in (store_error (length ms) limit k.free) (argument r 0) limit (stored lifo m ms) k
+    (λ e. omega (arith, length-stored lifo m ms, store_room (length ms) limit k.free e)) v
+valid-q_post_to (x ∷ xs) limit ms r h k v w =
+    valid-wakes_all (posted_result (argument r 0) (message (argument r 1) (argument r 2))) h (chosen (has_bit (argument r 3) 2) (x ∷ xs)) k v (AllWait-chosen k (has_bit (argument r 3) 2) (x ∷ xs) w)
+
+pub valid-q_post : (c : Content) (r : Request) (h : ℕ) (k : Kernel) → IsValid k → ValidAfter (q_post c r h k)
+valid-q_post (Messages limit ms) r h k v = valid-q_post_to (list_at k.pend (argument r 0)) limit ms r h k v (AllWait-pend k v (argument r 0))
+valid-q_post _ r h k v = v
+
+pub valid-q_pend : (c : Content) (r : Request) (x : ℕ) (k : Kernel) → IsContent c → IsValid k → MayCall x k → argument r 0 < length k.objects → ValidAfter (q_pend c r x k)
+valid-q_pend (Messages limit []) r x k c v m inside =
+    valid-tail k (argument r 2 == 1) (blocks_on k x (waits_for (Obj QPend) (argument r 0 ∷ []) (argument r 1))) v
+    (λ l. valid-one_object k v x m l QPend (argument r 0) (argument r 1) inside)
+valid-q_pend (Messages limit (m ∷ ms)) r x k c v may inside =
+    valid-free (with_content k (argument r 0) (Messages limit ms)) (k.free + 1) (valid-with_content k (argument r 0) (Messages limit ms) (omega (arith, c)) v)
+valid-q_pend _ r x k c v m inside = v
+
+-- flags
+
+valid-flag_wakes : (o : Option ℕ) (h x : ℕ) (k : Kernel) → IsValid k → x < 60 → waits_for_nothing (task_at k x).waiting ≡ false → IsValid (flag_wakes o h x k)
+valid-flag_wakes None h x k v l w = v
+valid-flag_wakes (Some ready) h x k v l w = valid-wakes k v x l (result_of (fine ready) (task_at k x)) h w
+
+AllWait-flag : (o : Option ℕ) (h x : ℕ) (k : Kernel) (xs : List ℕ) → count_of x xs ≡ 0 → AllWait k xs → AllWait (flag_wakes o h x k) xs
+AllWait-flag None h x k xs none w = w
+AllWait-flag (Some ready) h x k xs none w = AllWait-wakes (result_of (fine ready) (task_at k x)) h x k xs none w
+
+valid-flag_wakes_all : (bits h : ℕ) (xs : List ℕ) (k : Kernel) → IsValid k → AllWait k xs → IsValid (flag_wakes_all bits h xs k)
+valid-flag_wakes_all bits h [] k v w = v
+valid-flag_wakes_all bits h (x ∷ xs) k v w =
+    let o = ready_bits bits (task_at k x).mask (task_at k x).opt in
+    valid-flag_wakes_all bits h xs (flag_wakes o h x k) (valid-flag_wakes o h x k v w.0 w.1) (AllWait-flag o h x k xs w.2 w.3)
+
+AllWait-content : (k : Kernel) (o : ℕ) (c : Content) (xs : List ℕ) → AllWait k xs → AllWait (with_content k o c) xs
+AllWait-content k o c [] w = tt
+AllWait-content k o c (x ∷ xs) w = (w.0, w.1, w.2, AllWait-content k o c xs w.3)
+
+pub valid-flag_post : (c : Content) (r : Request) (h : ℕ) (k : Kernel) → IsValid k → ValidAfter (flag_post c r h k)
+valid-flag_post (Bits old) r h k v =
+    let bits = bits_after old (argument r 1) (argument r 2) in
+    let xs = list_at k.pend (argument r 0) in
+    valid-flag_wakes_all bits h xs (with_content k (argument r 0) (Bits bits)) (valid-with_content k (argument r 0) (Bits bits) tt v) (AllWait-content k (argument r 0) (Bits bits) xs (AllWait-pend k v (argument r 0)))
+valid-flag_post _ r h k v = v
+
+valid-flag_pend_on : (o : Option ℕ) (bits : ℕ) (r : Request) (x : ℕ) (k : Kernel) → IsValid k → MayCall x k → argument r 0 < length k.objects → ValidAfter (flag_pend_on o bits r x k)
+valid-flag_pend_on None bits r x k v m inside =
+    let w : Wait = record { waiting = Obj FlagPend; objects = argument r 0 ∷ []; mask = argument r 1; opt = argument r 3; table = 0; timeout = argument r 2 } in
+    valid-tail k (has_bit (argument r 3) 8) (blocks_on k x w) v
+    (λ l. valid-waits_for_one k v x m l (Obj FlagPend) refl (argument r 0) (argument r 1) (argument r 3) (argument r 2) inside)
+valid-flag_pend_on (Some ready) bits r x k v m inside = valid-with_content k (argument r 0) (Bits (consumed bits ready (argument r 3))) tt v
+
+pub valid-flag_pend : (c : Content) (r : Request) (x : ℕ) (k : Kernel) → IsValid k → MayCall x k → argument r 0 < length k.objects → ValidAfter (flag_pend c r x k)
+valid-flag_pend (Bits bits) r x k v m inside = valid-flag_pend_on (ready_bits bits (argument r 1) (argument r 3)) bits r x k v m inside
+valid-flag_pend _ r x k v m inside = v
+
+-- mutexes
+
+valid-nests : (o x nesting : ℕ) (k : Kernel) → nesting ≤ 250 → IsValid k → ValidAfter (nests o x nesting k)
+valid-nests o x nesting k l v =
+    choice_by ValidAfter (nesting == 250) (refused k Depth) (done (with_content k o (Held (Some x) (nesting + 1))) (answer MutexOwner (nesting + 1))) (λ s. v)
+    (λ s. valid-with_content k o (Held (Some x) (nesting + 1)) (next (unequal nesting 250 s)) v)
+  where
+    next : nesting ≢ 250 → nesting + 1 ≤ 250
+    next d = omega (arith, l)
+
+pub valid-mutex_pend : (c : Content) (r : Request) (x : ℕ) (k : Kernel) → IsContent c → IsValid k → MayCall x k → argument r 0 < length k.objects → ValidAfter (mutex_pend c r x k)
+valid-mutex_pend (Held None nesting) r x k c v m inside = valid-with_content k (argument r 0) (Held (Some x) 1) (omega arith) v
+valid-mutex_pend (Held (Some y) nesting) r x k c v m inside =
+    let e = blocks_on k x (waits_for (Obj MutexPend) (argument r 0 ∷ []) (argument r 1)) in
+    choice ValidAfter (y == x) (nests (argument r 0) x nesting k) (tail k (argument r 2 == 1) (renewing at_head e)) (valid-nests (argument r 0) x nesting k c v)
+    (valid-tail k (argument r 2 == 1) (renewing at_head e) v (λ l. valid-renewing at_head e (valid-one_object k v x m l MutexPend (argument r 0) (argument r 1) inside)))
+valid-mutex_pend _ r x k c v m inside = v
+
+pub valid-passes_to : (xs : List ℕ) (o h : ℕ) (k : Kernel) → IsValid k → AllWait k xs → ValidAfter (passes_to xs o h k)
+valid-passes_to [] o h k v w = valid-with_content k o (Held None 0) (omega arith) v
+valid-passes_to (x ∷ xs) o h k v w =
+    valid-wakes_all (result_of (fine 1)) h (x ∷ []) (with_content k o (Held (Some x) 1)) (valid-with_content k o (Held (Some x) 1) (omega arith) v) (w.0, w.1, refl, tt)
+
+valid-released : (nesting : ℕ) (r : Request) (x h : ℕ) (k : Kernel) → nesting ≤ 250 → IsValid k → ValidAfter (released nesting r x h k)
+valid-released nesting r x h k l v =
+    let o = argument r 0 in
+    let xs = list_at k.pend o in
+    choice ValidAfter (nat_lt 1 nesting) (done (with_content k o (Held (Some x) (nesting - 1))) (answer MutexNesting (nesting - 1))) (renewing at_tail (passes_to xs o h k))
+    (valid-with_content k o (Held (Some x) (nesting - 1)) (omega (arith, l)) v) (valid-renewing at_tail (passes_to xs o h k) (valid-passes_to xs o h k v (AllWait-pend k v o)))
+
+pub valid-mutex_post : (c : Content) (r : Request) (x h : ℕ) (k : Kernel) → IsContent c → IsValid k → ValidAfter (mutex_post c r x h k)
+valid-mutex_post (Held None nesting) r x h k c v = v
+valid-mutex_post (Held (Some y) nesting) r x h k c v =
+    choice ValidAfter (y == x) (released nesting r x h k) (refused k MutexNotOwner) (valid-released nesting r x h k c v) v
+valid-mutex_post _ r x h k c v = v
+
+-- aborts and deletions
+
+pub valid-aborts : (xs : List ℕ) (h : ℕ) (k : Kernel) → IsValid k → AllWait k xs → ValidAfter (aborts xs h k)
+valid-aborts [] h k v w = v
+valid-aborts (x ∷ xs) h k v w = valid-wakes_all (result_of (answer PendAbort 0)) h (x ∷ xs) k v w
+
+pub valid-mutex_aborts : (xs : List ℕ) (h : ℕ) (k : Kernel) → IsValid k → AllWait k xs → ValidAfter (mutex_aborts xs h k)
+valid-mutex_aborts [] h k v w = v
+valid-mutex_aborts (x ∷ xs) h k v w = valid-renewing at_tail (aborts (x ∷ xs) h k) (valid-aborts (x ∷ xs) h k v w)
+
+emptied-valid : (c : Content) → IsContent c → IsContent (emptied c)
+emptied-valid (Messages limit ms) c = omega arith
+emptied-valid (Count n) c = c
+emptied-valid (Bits bits) c = c
+emptied-valid (Held owner nesting) c = c
+emptied-valid (Timed t) c = c
+
+pub valid-without_object : (o : ℕ) (k : Kernel) → IsValid k → IsValid (without_object o k)
+valid-without_object o k v =
+    let f : Object → Object = λ b. record { content = emptied b.content; deleted = true } in
+    let objects = update_object k.objects o f in
+    let j : Kernel = record k { objects = objects } in
+    valid-free j (k.free + messages_in (object_at k o).content)
+    (valid-objects k objects (length-set k.objects o _) (update_object_keeps (λ b. IsContent b.content) f k.objects o (λ c. emptied-valid (object_at k o).content c) v.each_object) v)
+
+pub valid-deleted : (xs : List ℕ) (o h : ℕ) (k : Kernel) → IsValid k → AllWait k xs → ValidAfter (deletes true xs o h k)
+valid-deleted xs o h k v w =
+    valid-without_object o (wakes_all (result_of (answer ObjectDeleted 0)) h xs k) (valid-wakes_all (result_of (answer ObjectDeleted 0)) h xs k v w)
+
+pub valid-deletes : (all : Bool) (xs : List ℕ) (o h : ℕ) (k : Kernel) → IsValid k → AllWait k xs → ValidAfter (deletes all xs o h k)
+valid-deletes false (x ∷ xs) o h k v w = v
+valid-deletes false [] o h k v w = valid-deleted [] o h k v w
+valid-deletes true xs o h k v w = valid-deleted xs o h k v w
+
+pub valid-mutex_deletes : (all : Bool) (xs : List ℕ) (o h : ℕ) (k : Kernel) → IsValid k → AllWait k xs → ValidAfter (mutex_deletes all xs o h k)
+valid-mutex_deletes false (x ∷ xs) o h k v w = v
+valid-mutex_deletes false [] o h k v w = valid-renewing at_tail (deletes false [] o h k) (valid-deletes false [] o h k v w)
+valid-mutex_deletes true xs o h k v w = valid-renewing at_tail (deletes true xs o h k) (valid-deletes true xs o h k v w)
+
+-- a task's own semaphore and queue
+
+valid-task_counts_up : (x : ℕ) (k : Kernel) → IsValid k → ValidAfter (task_counts_up (task_at k x).count x k)
+valid-task_counts_up x k v =
+    let n = (task_at k x).count in
+    choice_by ValidAfter (n == 2 ^ 32 - 1) (refused k SemOverflow) (done (with_task k x (λ t. record t { count = n + 1 })) (fine (n + 1))) (λ s. v)
+    (λ s. valid-plain k x (λ t. record t { count = n + 1 }) (λ t. refl) (v.each_task x).base_from (next (unequal n (2 ^ 32 - 1) s)) (λ b. b) v)
+  where
+    next : (task_at k x).count ≢ 2 ^ 32 - 1 → IsWord ((task_at k x).count + 1)
+    next d = omega (arith, (v.each_task x).count)
+
+-- one task that waits
+pub AllWait-one : (k : Kernel) (x : ℕ) → x < 60 → waits_for_nothing (task_at k x).waiting ≡ false → AllWait k (x ∷ [])
+AllWait-one k x l w = (l, w, refl, tt)
+
+pub valid-task_sem_post_to : (w : Waiting) (x h : ℕ) (k : Kernel) → (task_at k x).waiting ≡ w → IsValid k → x < 60 → ValidAfter (task_sem_post_to w x h k)
+valid-task_sem_post_to TaskSem x h k e v l = valid-wakes_all (result_of (fine 0)) h (x ∷ []) k v (AllWait-one k x l (ap waits_for_nothing e))
+valid-task_sem_post_to _ x h k e v l = valid-task_counts_up x k v
+
+valid-task_store : (e : Option OsErr) (x : ℕ) (ms : List (ℕ × ℕ)) (k : Kernel) → IsValid k → ValidAfter (task_store e x ms k)
+valid-task_store (Some err) x ms k v = v
+valid-task_store None x ms k v =
+    valid-free (with_task k x (λ t. record t { messages = ms })) (k.free - 1) (valid-plain k x (λ t. record t { messages = ms }) (λ t. refl) (v.each_task x).base_from (v.each_task x).count (λ b. b) v)
+
+pub valid-task_q_post_to : (w : Waiting) (r : Request) (x h : ℕ) (k : Kernel) → (task_at k x).waiting ≡ w → IsValid k → x < 60 → ValidAfter (task_q_post_to w r x h k)
+valid-task_q_post_to TaskQ r x h k e v l = valid-wakes_all (result_of (message (argument r 1) (argument r 2))) h (x ∷ []) k v (AllWait-one k x l (ap waits_for_nothing e))
+valid-task_q_post_to _ r x h k e v l =
+    let t = task_at k x in
+    valid-task_store (store_error (length t.messages) t.limit k.free) x (stored (has_bit (argument r 3) 1) (argument r 1, argument r 2) t.messages) k v
+
+pub valid-task_sem_pend_on : (n : ℕ) (r : Request) (x : ℕ) (k : Kernel) → (task_at k x).count ≡ n → IsValid k → MayCall x k → ValidAfter (task_sem_pend_on n r x k)
+valid-task_sem_pend_on zero r x k e v m =
+    valid-tail k (argument r 1 == 1) (blocks_on k x (waits_for TaskSem [] (argument r 0))) v (λ l. valid-no_object k v x m l TaskSem refl (argument r 0))
+valid-task_sem_pend_on (suc n) r x k e v m =
+    valid-plain k x (λ t. record t { count = n }) (λ t. refl) (v.each_task x).base_from (omega (arith, e, (v.each_task x).count)) (λ b. b) v
+
+pub valid-task_q_pend_on : (ms : List (ℕ × ℕ)) (r : Request) (x : ℕ) (k : Kernel) → IsValid k → MayCall x k → ValidAfter (task_q_pend_on ms r x k)
+valid-task_q_pend_on [] r x k v m =
+    valid-tail k (argument r 1 == 1) (blocks_on k x (waits_for TaskQ [] (argument r 0))) v (λ l. valid-no_object k v x m l TaskQ refl (argument r 0))
+valid-task_q_pend_on (m ∷ ms) r x k v may =
+    valid-free (with_task k x (λ t. record t { messages = ms })) (k.free + 1) (valid-plain k x (λ t. record t { messages = ms }) (λ t. refl) (v.each_task x).base_from (v.each_task x).count (λ b. b) v)
+
+valid-task_abort_of : (b : Bool) (x h : ℕ) (k : Kernel) → IsValid k → x < 60 → (b ≡ true → waits_for_nothing (task_at k x).waiting ≡ false) → ValidAfter (task_abort_of b x h k)
+valid-task_abort_of false x h k v l w = v
+valid-task_abort_of true x h k v l w = valid-wakes_all (result_of (answer PendAbort 0)) h (x ∷ []) k v (AllWait-one k x l (w refl))
+
+pub semaphore_waits : (w : Waiting) → waits_for_semaphore w ≡ true → waits_for_nothing w ≡ false
+semaphore_waits TaskSem h = refl
+semaphore_waits _ h = absurd (false≢true h)
+
+pub queue_waits : (w : Waiting) → waits_for_queue w ≡ true → waits_for_nothing w ≡ false
+queue_waits TaskQ h = refl
+queue_waits _ h = absurd (false≢true h)
+
+pub valid-task_abort : (waits : Waiting → Bool) → ((w : Waiting) → waits w ≡ true → waits_for_nothing w ≡ false) → (r : Request) (x h : ℕ) (k : Kernel) → IsValid k → named_task r x < 60 → ValidAfter (task_abort waits r x h k)
+valid-task_abort waits tells r x h k v l =
+    let y = named_task r x in
+    choice ValidAfter (y == x) (refused k PendAbortSelf) (task_abort_of (waits (task_at k y).waiting) y h k) v
+    (valid-task_abort_of (waits (task_at k y).waiting) y h k v l (tells (task_at k y).waiting))
