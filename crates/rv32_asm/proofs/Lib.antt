@@ -1,0 +1,5 @@
+pub mod NameLaws
+pub mod RowLaws
+pub mod TokenCount
+pub mod CauseLaws
+mod Worked

@@ -1,0 +1,16 @@
+pub mod Tables
+pub mod Pieces
+pub mod Mnemonics
+pub mod Registers
+pub mod Words
+pub mod Forms
+pub mod Lines
+pub mod Names
+pub mod Operands
+pub mod Causes
+pub mod Places
+pub mod Refusal
+pub mod Instructions
+pub mod Assembled
+pub mod NamesView
+pub mod DraftView

@@ -1,0 +1,220 @@
+// The whole text.
+
+ghost use Rattle.std.specs.Prelude.{◌≡◌, ◌<◌, ◌≤◌, ◌^◌, ℕ, List, false, not, length, map, OnOk, IfOk, IfErr};
+ghost use Rattle.std.specs.List.{list_any};
+ghost use Rattle.text_lex.specs.Tokens.{lexed, Tokens};
+ghost use Rattle.rv32_asm.specs.NamesView.{known_in};
+ghost use Rattle.rv32_asm.specs.Names.{no_counts, names_of as names_for};
+ghost use Rattle.rv32_asm.specs.Operands.{no_place, registers_in, value_of as value_for};
+ghost use Rattle.rv32_asm.specs.Causes.{is_register, has_constant_out_of_range, has_far_target, has_long_name};
+ghost use Rattle.rv32_asm.specs.Assembled.{assembled, assembled_from, assembled_lines, empty_image, with_statement, with_words, Gives, IsFault};
+ghost use Rattle.rv32_asm.specs.DraftView.{raw_of};
+
+use crate::AsmError;
+use crate::draft::Draft;
+use crate::instructions::push_words;
+use crate::lines::read;
+use crate::mnemonics::Section;
+use crate::names::{Names, counted, names_of};
+use crate::operands::value_of;
+use crate::pieces::{Operand, spelling};
+use crate::places::{NO_COUNTS, NO_PLACE, Place};
+use crate::placing::{place_after, places_of};
+use crate::refusal::cause_of;
+use crate::statements::{Line, Statement};
+use app_image::{ConfigLine, Name, ObjDef, RawImage, TaskDef, VectorDef};
+use std::alloc::{AllocError, Global};
+use text_lex::{TEXT_LIMIT, Token};
+
+// The words that four operands are.
+fn four_words(text: &[u8], names: &Names, places: &[Place], values: &[Operand; 4]) -> [u32; 4]
+    ensures { result ≡ map (value_for text.now (known_in names.now) places.now) values.now }
+{
+    [
+        value_of(text, names, places, values[0]),
+        value_of(text, names, places, values[1]),
+        value_of(text, names, places, values[2]),
+        value_of(text, names, places, values[3]),
+    ]
+}
+
+// The words that five operands are.
+fn five_words(text: &[u8], names: &Names, places: &[Place], values: &[Operand; 5]) -> [u32; 5]
+    ensures { result ≡ map (value_for text.now (known_in names.now) places.now) values.now }
+{
+    [
+        value_of(text, names, places, values[0]),
+        value_of(text, names, places, values[1]),
+        value_of(text, names, places, values[2]),
+        value_of(text, names, places, values[3]),
+        value_of(text, names, places, values[4]),
+    ]
+}
+
+// Adds what a line gives that begins at a place and has no cause.
+fn add_line(
+    draft: &mut Draft,
+    text: &[u8],
+    tokens: &[Token],
+    names: &Names,
+    places: &[Place],
+    place: Place,
+    line: &Line,
+) -> Result<(), AllocError>
+    requires registers { list_any (λ r. not (is_register r)) (registers_in line.now.statement) ≡ false }
+    requires constant { has_constant_out_of_range text.now (known_in names.now) line.now.statement ≡ false }
+    requires target { has_far_target text.now (known_in names.now) places.now place line.now.statement ≡ false }
+    requires name { has_long_name text.now line.now.statement ≡ false }
+    ensures { OnOk result (raw_of draft.new ≡ with_statement text.now tokens.now (known_in names.now) places.now line.now.number place line.now.statement (raw_of draft.old)) }
+{
+    match &line.statement {
+        Statement::Task(name, values) => {
+            let [entry, prio, quanta, qsize, sp] = five_words(text, names, places, values);
+            draft.tasks.push(TaskDef {
+                name: Name::of(spelling(text, *name)),
+                entry,
+                prio,
+                quanta,
+                qsize,
+                sp,
+                line: line.number,
+            })?;
+            Ok(())
+        }
+        Statement::Object(name, kind, values) => {
+            let f = four_words(text, names, places, values);
+            draft.objects.push(ObjDef {
+                name: Name::of(spelling(text, *name)),
+                kind: *kind,
+                f,
+                line: line.number,
+            })?;
+            Ok(())
+        }
+        Statement::Vector(values) => {
+            let [number, level, entry, sp] = four_words(text, names, places, values);
+            draft.vectors.push(VectorDef {
+                number,
+                level,
+                entry,
+                sp,
+                line: line.number,
+            })?;
+            Ok(())
+        }
+        Statement::Setting(Some(key), value) => {
+            let value = value_of(text, names, places, *value);
+            draft.config.push(ConfigLine {
+                key: *key,
+                value,
+                line: line.number,
+            })?;
+            Ok(())
+        }
+        Statement::Setting(None, _) => Ok(()),
+        _ => {
+            draft.words.clear();
+            push_words(
+                &mut draft.words,
+                text,
+                tokens,
+                names,
+                places,
+                place,
+                &line.statement,
+            )?;
+            add_scratch(draft, place.section)
+        }
+    }
+}
+
+// Adds the words of a line to a section.
+fn add_scratch(draft: &mut Draft, section: Section) -> Result<(), AllocError>
+    ensures { OnOk result (raw_of draft.new ≡ with_words section draft.old.words.items (raw_of draft.old)) }
+{
+    match section {
+        Section::Nowhere => Ok(()),
+        Section::Code => draft.code.extend_from_slice(&draft.words),
+        Section::Ram => draft.ram.extend_from_slice(&draft.words),
+    }
+}
+
+// What lines give, or the first line with a cause.
+fn assemble_lines(
+    alloc: Global,
+    text: &[u8],
+    tokens: &[Token],
+    names: &Names,
+    places: &[Place],
+    lines: &[Line],
+) -> Result<RawImage, AsmError>
+    requires few_tokens { length tokens.now < 2 ^ 32 }
+    requires few_lines { length lines.now < 2 ^ 62 }
+    ensures image { IfOk result (λ raw. (used : ℕ) → assembled_from text.now tokens.now (known_in names.now) places.now no_counts no_place empty_image used lines.now ≡ Gives raw used) }
+    ensures fault { IfErr result (λ error. (used : ℕ) → IsFault error (assembled_from text.now tokens.now (known_in names.now) places.now no_counts no_place empty_image used lines.now)) }
+{
+    let mut draft = Draft::new(alloc);
+    let mut counts = NO_COUNTS;
+    let mut place = NO_PLACE;
+    for line in lines {
+        if let Some(cause) = cause_of(text, tokens, names, places, counts, place, line) {
+            return Err(AsmError::At(line.number, cause));
+        }
+        let Ok(()) = add_line(&mut draft, text, tokens, names, places, place, line) else {
+            return Err(AsmError::NoMemory);
+        };
+        let Some(after) = place_after(text, tokens, names, counts, place, line) else {
+            return Err(AsmError::NoMemory);
+        };
+        place = after;
+        counts = counted(&line.statement, counts);
+    }
+    Ok(draft.into_raw())
+}
+
+// What the lines of a text give, or the first line with a cause.
+fn assemble_all(
+    alloc: Global,
+    text: &[u8],
+    tokens: &[Token],
+    lines: &[Line],
+) -> Result<RawImage, AsmError>
+    requires few_tokens { length tokens.now < 2 ^ 32 }
+    requires few_lines { length lines.now < 2 ^ 62 }
+    ensures image { IfOk result (λ raw. (used : ℕ) → assembled_lines text.now tokens.now (record { lines = lines.now; used = used }) ≡ Gives raw used) }
+    ensures fault { IfErr result (λ error. (used : ℕ) → IsFault error (assembled_lines text.now tokens.now (record { lines = lines.now; used = used }))) }
+{
+    let Ok(names) = names_of(alloc, text, lines) else {
+        return Err(AsmError::NoMemory);
+    };
+    let Ok(places) = places_of(alloc, text, tokens, &names, lines) else {
+        return Err(AsmError::NoMemory);
+    };
+    assemble_lines(alloc, text, tokens, &names, &places, lines)
+}
+
+// What a text gives whose tokens are few.
+fn assemble_few(alloc: Global, text: &[u8], tokens: &[Token]) -> Result<(RawImage, usize), AsmError>
+    requires { length tokens.now < 2 ^ 32 }
+    ensures image { IfOk result (λ given. assembled text.now tokens.now ≡ Gives given.0 given.1) }
+    ensures fault { IfErr result (λ error. IsFault error (assembled text.now tokens.now)) }
+{
+    let Ok(reading) = read(alloc, text, tokens) else {
+        return Err(AsmError::NoMemory);
+    };
+    match assemble_all(alloc, text, tokens, &reading.lines) {
+        Ok(raw) => Ok((raw, reading.used)),
+        Err(error) => Err(error),
+    }
+}
+
+/// The raw image that a text gives, up to its line `.inject`, and the index of the first token behind
+/// that line, or the number of tokens where there is none. The tokens are those of the text.
+pub fn assemble(alloc: Global, text: &[u8], tokens: &[Token]) -> Result<(RawImage, usize), AsmError>
+    requires short { length text.now ≤ TEXT_LIMIT }
+    requires tokens { lexed text.now ≡ Tokens tokens.now }
+    ensures image { IfOk result (λ given. assembled text.now tokens.now ≡ Gives given.0 given.1) }
+    ensures fault { IfErr result (λ error. IsFault error (assembled text.now tokens.now)) }
+{
+    assemble_few(alloc, text, tokens)
+}

@@ -1,0 +1,59 @@
+// What the lines so far give.
+
+ghost use Rattle.std.specs.Prelude.{◌≡◌, [], ◌≤◌};
+
+use app_image::{ConfigLine, ObjDef, RawImage, TaskDef, VectorDef};
+use std::alloc::Global;
+
+/// What the lines so far give, and the words of one line.
+#[derive(Drop)]
+pub struct Draft {
+    pub tasks: Vec<TaskDef>,
+    pub objects: Vec<ObjDef>,
+    pub vectors: Vec<VectorDef>,
+    pub config: Vec<ConfigLine>,
+    pub code: Vec<u32>,
+    pub ram: Vec<u32>,
+    pub words: Vec<u32>,
+}
+
+impl Draft {
+    ghost use Rattle.rv32_asm.specs.DraftView.{raw_of};
+    ghost use Rattle.rv32_asm.specs.Assembled.{empty_image};
+
+    pub fn new(alloc: Global) -> Draft
+        ensures { raw_of result ≡ empty_image }
+    {
+        Draft {
+            tasks: Vec::new(alloc),
+            objects: Vec::new(alloc),
+            vectors: Vec::new(alloc),
+            config: Vec::new(alloc),
+            code: Vec::new(alloc),
+            ram: Vec::new(alloc),
+            words: Vec::new(alloc),
+        }
+    }
+
+    pub fn into_raw(self) -> RawImage
+        ensures { result ≡ raw_of self }
+    {
+        let Draft {
+            tasks,
+            objects,
+            vectors,
+            config,
+            code,
+            ram,
+            words: _,
+        } = self;
+        RawImage {
+            tasks,
+            objects,
+            vectors,
+            config,
+            code,
+            ram,
+        }
+    }
+}

@@ -1,0 +1,533 @@
+// The forms of the statements: what the pieces after the first word of a line have to be.
+
+ghost use Rattle.std.specs.Prelude.{◌≡◌, slice_index_or};
+ghost use Rattle.rv32_asm.specs.Forms as forms;
+
+use crate::mnemonics::{
+    AloneOp, BranchOp, Head, ImmediateOp, Pseudo, RegisterOp, ShiftOp, StoreOp, UpperOp,
+};
+use crate::pieces::{Operand, Piece, Span, spelling};
+use crate::registers::register_number;
+use crate::statements::Statement;
+use crate::tables::entry;
+use crate::words::{key_of, service_number};
+use kern_base::Kind;
+
+const ZERO: Operand = Operand::Number(0);
+
+const ZERO_REGISTER: Option<u8> = Some(0);
+
+const LINK_REGISTER: Option<u8> = Some(1);
+
+fn register(text: &[u8], name: Span) -> Option<u8>
+    ensures { result ≡ forms.register text.now name }
+{
+    register_number(spelling(text, name))
+}
+
+// rd, rs1, rs2
+fn register_form(text: &[u8], op: RegisterOp, pieces: &[Piece]) -> Option<Statement>
+    ensures { result ≡ forms.register_form text.now op pieces.now }
+{
+    match pieces {
+        [
+            Piece::Is(Operand::Named(d)),
+            Piece::Comma,
+            Piece::Is(Operand::Named(s)),
+            Piece::Comma,
+            Piece::Is(Operand::Named(t)),
+        ] => Some(Statement::Registers(
+            op,
+            register(text, *d),
+            register(text, *s),
+            register(text, *t),
+        )),
+        _ => None,
+    }
+}
+
+// rd, rs1, constant
+fn immediate_form(text: &[u8], op: ImmediateOp, pieces: &[Piece]) -> Option<Statement>
+    ensures { result ≡ forms.immediate_form text.now op pieces.now }
+{
+    match pieces {
+        [
+            Piece::Is(Operand::Named(d)),
+            Piece::Comma,
+            Piece::Is(Operand::Named(s)),
+            Piece::Comma,
+            Piece::Is(constant),
+        ] => Some(Statement::Immediate(op, register(text, *d), register(text, *s), *constant)),
+        _ => None,
+    }
+}
+
+// rd, rs1, constant
+fn shift_form(text: &[u8], op: ShiftOp, pieces: &[Piece]) -> Option<Statement>
+    ensures { result ≡ forms.shift_form text.now op pieces.now }
+{
+    match pieces {
+        [
+            Piece::Is(Operand::Named(d)),
+            Piece::Comma,
+            Piece::Is(Operand::Named(s)),
+            Piece::Comma,
+            Piece::Is(constant),
+        ] => Some(Statement::Shift(op, register(text, *d), register(text, *s), *constant)),
+        _ => None,
+    }
+}
+
+// rd, constant(rs1)
+fn load_form(text: &[u8], op: ImmediateOp, pieces: &[Piece]) -> Option<Statement>
+    ensures { result ≡ forms.load_form text.now op pieces.now }
+{
+    match pieces {
+        [
+            Piece::Is(Operand::Named(d)),
+            Piece::Comma,
+            Piece::Is(constant),
+            Piece::Open,
+            Piece::Is(Operand::Named(s)),
+            Piece::Close,
+        ] => Some(Statement::Immediate(op, register(text, *d), register(text, *s), *constant)),
+        [
+            Piece::Is(Operand::Named(d)),
+            Piece::Comma,
+            Piece::Open,
+            Piece::Is(Operand::Named(s)),
+            Piece::Close,
+        ] => Some(Statement::Immediate(op, register(text, *d), register(text, *s), ZERO)),
+        _ => None,
+    }
+}
+
+// rs2, constant(rs1)
+fn store_form(text: &[u8], op: StoreOp, pieces: &[Piece]) -> Option<Statement>
+    ensures { result ≡ forms.store_form text.now op pieces.now }
+{
+    match pieces {
+        [
+            Piece::Is(Operand::Named(t)),
+            Piece::Comma,
+            Piece::Is(constant),
+            Piece::Open,
+            Piece::Is(Operand::Named(s)),
+            Piece::Close,
+        ] => Some(Statement::Store(op, register(text, *t), register(text, *s), *constant)),
+        [
+            Piece::Is(Operand::Named(t)),
+            Piece::Comma,
+            Piece::Open,
+            Piece::Is(Operand::Named(s)),
+            Piece::Close,
+        ] => Some(Statement::Store(op, register(text, *t), register(text, *s), ZERO)),
+        _ => None,
+    }
+}
+
+// rs1, rs2, label
+fn branch_form(text: &[u8], op: BranchOp, pieces: &[Piece]) -> Option<Statement>
+    ensures { result ≡ forms.branch_form text.now op pieces.now }
+{
+    match pieces {
+        [
+            Piece::Is(Operand::Named(s)),
+            Piece::Comma,
+            Piece::Is(Operand::Named(t)),
+            Piece::Comma,
+            Piece::Is(Operand::Named(target)),
+        ] => Some(Statement::Branch(op, register(text, *s), register(text, *t), *target)),
+        _ => None,
+    }
+}
+
+// rd, constant
+fn upper_form(text: &[u8], op: UpperOp, pieces: &[Piece]) -> Option<Statement>
+    ensures { result ≡ forms.upper_form text.now op pieces.now }
+{
+    match pieces {
+        [
+            Piece::Is(Operand::Named(d)),
+            Piece::Comma,
+            Piece::Is(constant),
+        ] => { Some(Statement::Upper(op, register(text, *d), *constant)) }
+        _ => None,
+    }
+}
+
+// rd, label
+fn jump_form(text: &[u8], pieces: &[Piece]) -> Option<Statement>
+    ensures { result ≡ forms.jump_form text.now pieces.now }
+{
+    match pieces {
+        [
+            Piece::Is(Operand::Named(d)),
+            Piece::Comma,
+            Piece::Is(Operand::Named(target)),
+        ] => { Some(Statement::Jump(register(text, *d), *target)) }
+        _ => None,
+    }
+}
+
+// nothing
+fn alone_form(statement: Statement, pieces: &[Piece]) -> Option<Statement>
+    ensures { result ≡ forms.alone_form statement pieces.now }
+{
+    match pieces {
+        [] => Some(statement),
+        _ => None,
+    }
+}
+
+// rd, rs of a pseudo-instruction
+fn two_form(text: &[u8], pseudo: Pseudo, pieces: &[Piece]) -> Option<Statement>
+    ensures { result ≡ forms.two_form text.now pseudo pieces.now }
+{
+    match pieces {
+        [
+            Piece::Is(Operand::Named(d)),
+            Piece::Comma,
+            Piece::Is(Operand::Named(s)),
+        ] => { of_two(pseudo, register(text, *d), register(text, *s)) }
+        _ => None,
+    }
+}
+
+// What stands for a pseudo-instruction on two registers.
+fn of_two(pseudo: Pseudo, d: Option<u8>, s: Option<u8>) -> Option<Statement>
+    ensures { result ≡ forms.of_two pseudo d s }
+{
+    match pseudo {
+        Pseudo::Mv => Some(Statement::Immediate(ImmediateOp::Addi, d, s, ZERO)),
+        Pseudo::Not => Some(Statement::Immediate(ImmediateOp::Xori, d, s, Operand::Number(-1))),
+        Pseudo::Neg => Some(Statement::Registers(RegisterOp::Sub, d, ZERO_REGISTER, s)),
+        Pseudo::Seqz => Some(Statement::Immediate(ImmediateOp::Sltiu, d, s, Operand::Number(1))),
+        Pseudo::Snez => Some(Statement::Registers(RegisterOp::Sltu, d, ZERO_REGISTER, s)),
+        _ => None,
+    }
+}
+
+// rs, label of a pseudo-instruction
+fn target_form(text: &[u8], pseudo: Pseudo, pieces: &[Piece]) -> Option<Statement>
+    ensures { result ≡ forms.target_form text.now pseudo pieces.now }
+{
+    match pieces {
+        [
+            Piece::Is(Operand::Named(s)),
+            Piece::Comma,
+            Piece::Is(Operand::Named(target)),
+        ] => { of_target(pseudo, register(text, *s), *target) }
+        _ => None,
+    }
+}
+
+// What stands for a pseudo-instruction on a register and a label.
+fn of_target(pseudo: Pseudo, s: Option<u8>, target: Span) -> Option<Statement>
+    ensures { result ≡ forms.of_target pseudo s target }
+{
+    match pseudo {
+        Pseudo::Beqz => Some(Statement::Branch(BranchOp::Beq, s, ZERO_REGISTER, target)),
+        Pseudo::Bnez => Some(Statement::Branch(BranchOp::Bne, s, ZERO_REGISTER, target)),
+        _ => None,
+    }
+}
+
+// label, for a jump that links in a register
+fn go_form(link: Option<u8>, pieces: &[Piece]) -> Option<Statement>
+    ensures { result ≡ forms.go_form link pieces.now }
+{
+    match pieces {
+        [Piece::Is(Operand::Named(target))] => Some(Statement::Jump(link, *target)),
+        _ => None,
+    }
+}
+
+// rs
+fn return_form(text: &[u8], pieces: &[Piece]) -> Option<Statement>
+    ensures { result ≡ forms.return_form text.now pieces.now }
+{
+    match pieces {
+        [Piece::Is(Operand::Named(s))] => {
+            Some(Statement::Immediate(ImmediateOp::Jalr, ZERO_REGISTER, register(text, *s), ZERO))
+        }
+        _ => None,
+    }
+}
+
+// rd, constant
+fn load_constant_form(text: &[u8], pieces: &[Piece]) -> Option<Statement>
+    ensures { result ≡ forms.load_constant_form text.now pieces.now }
+{
+    match pieces {
+        [
+            Piece::Is(Operand::Named(d)),
+            Piece::Comma,
+            Piece::Is(constant),
+        ] => { Some(Statement::LoadConstant(register(text, *d), *constant)) }
+        _ => None,
+    }
+}
+
+// rd, value
+fn load_value_form(text: &[u8], pieces: &[Piece]) -> Option<Statement>
+    ensures { result ≡ forms.load_value_form text.now pieces.now }
+{
+    match pieces {
+        [Piece::Is(Operand::Named(d)), Piece::Comma, Piece::Is(value)] => {
+            Some(Statement::LoadValue(register(text, *d), *value))
+        }
+        _ => None,
+    }
+}
+
+// the name of a service
+fn service_form(text: &[u8], pieces: &[Piece]) -> Option<Statement>
+    ensures { result ≡ forms.service_form text.now pieces.now }
+{
+    match pieces {
+        [Piece::Is(Operand::Named(service))] => {
+            let number = service_number(spelling(text, *service))?;
+            Some(Statement::CallService(number))
+        }
+        _ => None,
+    }
+}
+
+fn pseudo_form(text: &[u8], pseudo: Pseudo, pieces: &[Piece]) -> Option<Statement>
+    ensures { result ≡ forms.pseudo_form text.now pseudo pieces.now }
+{
+    match pseudo {
+        Pseudo::Nop => alone_form(
+            Statement::Immediate(ImmediateOp::Addi, ZERO_REGISTER, ZERO_REGISTER, ZERO),
+            pieces,
+        ),
+        Pseudo::Mv | Pseudo::Not | Pseudo::Neg | Pseudo::Seqz | Pseudo::Snez => {
+            two_form(text, pseudo, pieces)
+        }
+        Pseudo::Beqz | Pseudo::Bnez => target_form(text, pseudo, pieces),
+        Pseudo::J => go_form(ZERO_REGISTER, pieces),
+        Pseudo::Call => go_form(LINK_REGISTER, pieces),
+        Pseudo::Jr => return_form(text, pieces),
+        Pseudo::Ret => alone_form(
+            Statement::Immediate(ImmediateOp::Jalr, ZERO_REGISTER, LINK_REGISTER, ZERO),
+            pieces,
+        ),
+        Pseudo::Li => load_constant_form(text, pieces),
+        Pseudo::La => load_value_form(text, pieces),
+        Pseudo::Os => service_form(text, pieces),
+    }
+}
+
+/// The statement that begins with this head and goes on with these pieces, or None where they are not
+/// its form. The first piece is the token at the place `at`.
+pub fn form(text: &[u8], at: usize, head: Head, pieces: &[Piece]) -> Option<Statement>
+    ensures { result ≡ forms.form text.now at head pieces.now }
+{
+    match head {
+        Head::Registers(op) => register_form(text, op, pieces),
+        Head::Immediate(op) => immediate_form(text, op, pieces),
+        Head::Load(op) => load_form(text, op, pieces),
+        Head::Shift(op) => shift_form(text, op, pieces),
+        Head::Store(op) => store_form(text, op, pieces),
+        Head::Branch(op) => branch_form(text, op, pieces),
+        Head::Upper(op) => upper_form(text, op, pieces),
+        Head::Jump => jump_form(text, pieces),
+        Head::Alone(op) => alone_form(Statement::Alone(op), pieces),
+        Head::Pseudo(pseudo) => pseudo_form(text, pseudo, pieces),
+        Head::Section(section) => alone_form(Statement::Section(section), pieces),
+        Head::Word => word_form(at, pieces),
+        Head::Space => space_form(pieces),
+        Head::Equ => equ_form(pieces),
+        Head::Task => task_form(pieces),
+        Head::Object(kind) => object_form(kind, pieces),
+        Head::Mutex => mutex_form(pieces),
+        Head::Timer => timer_form(text, pieces),
+        Head::Vector => vector_form(pieces),
+        Head::Config => config_form(text, pieces),
+        Head::Inject => alone_form(Statement::Inject, pieces),
+    }
+}
+
+// One or more values with commas between them.
+fn are_values(pieces: &[Piece]) -> bool
+    ensures { result ≡ forms.are_values pieces.now }
+{
+    let mut rest = pieces;
+    while let [Piece::Is(_), Piece::Comma, behind @ ..] = rest {
+        rest = behind;
+    }
+    matches!(rest, [Piece::Is(_)])
+}
+
+// values
+fn word_form(at: usize, pieces: &[Piece]) -> Option<Statement>
+    ensures { result ≡ forms.word_form at pieces.now }
+{
+    if are_values(pieces) {
+        Some(Statement::Words(at, pieces.len()))
+    } else {
+        None
+    }
+}
+
+// constant
+fn space_form(pieces: &[Piece]) -> Option<Statement>
+    ensures { result ≡ forms.space_form pieces.now }
+{
+    match pieces {
+        [Piece::Is(constant)] => Some(Statement::Space(*constant)),
+        _ => None,
+    }
+}
+
+// name, number
+fn equ_form(pieces: &[Piece]) -> Option<Statement>
+    ensures { result ≡ forms.equ_form pieces.now }
+{
+    match pieces {
+        [
+            Piece::Is(Operand::Named(name)),
+            Piece::Comma,
+            Piece::Is(Operand::Number(value)),
+        ] => { Some(Statement::Equ(*name, *value)) }
+        _ => None,
+    }
+}
+
+// name, entry, priority, quantum, queue size, stack pointer
+fn task_form(pieces: &[Piece]) -> Option<Statement>
+    ensures { result ≡ forms.task_form pieces.now }
+{
+    match pieces {
+        [
+            Piece::Is(Operand::Named(name)),
+            Piece::Comma,
+            Piece::Is(entry),
+            Piece::Comma,
+            Piece::Is(prio),
+            Piece::Comma,
+            Piece::Is(quanta),
+            Piece::Comma,
+            Piece::Is(qsize),
+            Piece::Comma,
+            Piece::Is(sp),
+        ] => Some(Statement::Task(*name, [*entry, *prio, *quanta, *qsize, *sp])),
+        _ => None,
+    }
+}
+
+// name, count or size or bits
+fn object_form(kind: Kind, pieces: &[Piece]) -> Option<Statement>
+    ensures { result ≡ forms.object_form kind pieces.now }
+{
+    match pieces {
+        [
+            Piece::Is(Operand::Named(name)),
+            Piece::Comma,
+            Piece::Is(value),
+        ] => { Some(Statement::Object(*name, kind, [*value, ZERO, ZERO, ZERO])) }
+        _ => None,
+    }
+}
+
+// name
+fn mutex_form(pieces: &[Piece]) -> Option<Statement>
+    ensures { result ≡ forms.mutex_form pieces.now }
+{
+    match pieces {
+        [Piece::Is(Operand::Named(name))] => {
+            Some(Statement::Object(*name, Kind::Mutex, [ZERO, ZERO, ZERO, ZERO]))
+        }
+        _ => None,
+    }
+}
+
+static TIMER_KINDS: [(&[u8], Kind); 2] = [
+    (b"oneshot", Kind::OneShot),
+    (b"periodic", Kind::Periodic),
+];
+
+fn timer_kind(word: &[u8]) -> Option<Kind>
+    ensures { result ≡ forms.timer_kind word.now }
+{
+    entry(word, &TIMER_KINDS)
+}
+
+// A callback: the word `none` is there never a name, and stands for the greatest word.
+fn callback(text: &[u8], operand: Operand) -> Operand
+    ensures { result ≡ forms.callback text.now operand }
+{
+    match operand {
+        Operand::Named(name) if spelling(text, name) == b"none".as_slice() => {
+            Operand::Number(4_294_967_295)
+        }
+        _ => operand,
+    }
+}
+
+// A timer of a kind that stands in a word.
+fn timer_of(text: &[u8], name: Span, kind: Operand, fields: [Operand; 4]) -> Option<Statement>
+    ensures { result ≡ forms.timer_of text.now name kind (slice_index_or fields 0 kind) (slice_index_or fields 1 kind) (slice_index_or fields 2 kind) (slice_index_or fields 3 kind) }
+{
+    let Operand::Named(word) = kind else {
+        return None;
+    };
+    let kind = timer_kind(spelling(text, word))?;
+    let [delay, period, call, argument] = fields;
+    Some(Statement::Object(name, kind, [delay, period, callback(text, call), argument]))
+}
+
+// name, kind, delay, period, callback, argument
+fn timer_form(text: &[u8], pieces: &[Piece]) -> Option<Statement>
+    ensures { result ≡ forms.timer_form text.now pieces.now }
+{
+    match pieces {
+        [
+            Piece::Is(Operand::Named(name)),
+            Piece::Comma,
+            Piece::Is(kind),
+            Piece::Comma,
+            Piece::Is(delay),
+            Piece::Comma,
+            Piece::Is(period),
+            Piece::Comma,
+            Piece::Is(call),
+            Piece::Comma,
+            Piece::Is(argument),
+        ] => timer_of(text, *name, *kind, [*delay, *period, *call, *argument]),
+        _ => None,
+    }
+}
+
+// number, level, entry, stack pointer
+fn vector_form(pieces: &[Piece]) -> Option<Statement>
+    ensures { result ≡ forms.vector_form pieces.now }
+{
+    match pieces {
+        [
+            Piece::Is(number),
+            Piece::Comma,
+            Piece::Is(level),
+            Piece::Comma,
+            Piece::Is(entry),
+            Piece::Comma,
+            Piece::Is(sp),
+        ] => Some(Statement::Vector([*number, *level, *entry, *sp])),
+        _ => None,
+    }
+}
+
+// key, value
+fn config_form(text: &[u8], pieces: &[Piece]) -> Option<Statement>
+    ensures { result ≡ forms.config_form text.now pieces.now }
+{
+    match pieces {
+        [
+            Piece::Is(Operand::Named(key)),
+            Piece::Comma,
+            Piece::Is(value),
+        ] => { Some(Statement::Setting(key_of(spelling(text, *key)), *value)) }
+        _ => None,
+    }
+}

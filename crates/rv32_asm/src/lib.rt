@@ -1,0 +1,24 @@
+//! The assembler: the code, the RAM and the declarations that a case text gives.
+#![tactic(auto)]
+
+mod assembling;
+mod causes;
+mod checks;
+mod draft;
+mod forms;
+mod instructions;
+mod lines;
+mod mnemonics;
+mod names;
+mod operands;
+mod pieces;
+mod places;
+mod placing;
+mod refusal;
+mod registers;
+mod statements;
+mod tables;
+mod words;
+
+pub use assembling::assemble;
+pub use causes::{AsmCause, AsmError};

@@ -1,0 +1,156 @@
+// The operands of statements by what may stand there, and their values.
+
+ghost use Rattle.std.specs.Prelude.{◌≡◌, pos};
+ghost use Rattle.rv32_asm.specs.NamesView.{known_in};
+ghost use Rattle.rv32_asm.specs.Operands as operands;
+
+use crate::mnemonics::Section;
+use crate::names::{Names, meaning};
+use crate::pieces::{Operand, Span};
+use crate::places::{Meaning, NO_PLACE, Place};
+use crate::statements::Statement;
+use text_lex::Token;
+
+/// Where RAM begins.
+const RAM_START: u64 = 0x10_0000;
+
+/// The constant of a statement.
+pub fn constant_in(statement: &Statement) -> Option<Operand>
+    ensures { result ≡ operands.constant_in statement.now }
+{
+    match statement {
+        Statement::Space(constant)
+        | Statement::Immediate(_, _, _, constant)
+        | Statement::Shift(_, _, _, constant)
+        | Statement::Store(_, _, _, constant)
+        | Statement::Upper(_, _, constant)
+        | Statement::LoadConstant(_, constant) => Some(*constant),
+        _ => None,
+    }
+}
+
+/// The target of a statement.
+pub fn target_in(statement: &Statement) -> Option<Span>
+    ensures { result ≡ operands.target_in statement.now }
+{
+    match statement {
+        Statement::Branch(_, _, _, target) | Statement::Jump(_, target) => Some(*target),
+        _ => None,
+    }
+}
+
+/// So many tokens from a place on, as far as they are there.
+pub fn part(tokens: &[Token], at: usize, count: usize) -> &[Token]
+    ensures { result.now ≡ operands.part tokens.now at count }
+{
+    let behind = &tokens[tokens.len().min(at)..];
+    &behind[..behind.len().min(count)]
+}
+
+fn number_of(meaning: Option<Meaning>) -> Option<i64>
+    ensures { result ≡ operands.number_of meaning }
+{
+    match meaning {
+        Some(Meaning::Constant(value)) => Some(value),
+        _ => None,
+    }
+}
+
+/// The number that an operand is, if it is a constant.
+pub fn constant_of(text: &[u8], names: &Names, operand: Operand) -> Option<i64>
+    ensures { result ≡ operands.constant_of text.now (known_in names.now) operand }
+{
+    match operand {
+        Operand::Number(value) => Some(value),
+        Operand::Named(name) => number_of(meaning(text, names, name)),
+    }
+}
+
+/// The bytes before a line in a section.
+pub fn offset_of(place: Place, section: Section) -> u64
+    ensures { result ≡ operands.offset_of place section }
+{
+    match section {
+        Section::Nowhere => 0,
+        Section::Code => place.code,
+        Section::Ram => place.ram,
+    }
+}
+
+fn base_of(section: Section) -> u64
+    ensures { result ≡ operands.base_of section }
+{
+    match section {
+        Section::Nowhere | Section::Code => 0,
+        Section::Ram => RAM_START,
+    }
+}
+
+// The address where a line begins.
+fn address_of(place: Place) -> u128
+    ensures { result ≡ operands.address_of place }
+{
+    u128::from(base_of(place.section)) + u128::from(offset_of(place, place.section))
+}
+
+/// Where the line begins that so many lines stand before.
+pub fn place_at(places: &[Place], line: usize) -> Place
+    ensures { result ≡ operands.place_at places.now line }
+{
+    places.get(line).copied().unwrap_or(NO_PLACE)
+}
+
+/// A number modulo 2^32.
+pub fn word_of(value: i64) -> u32
+    ensures { result ≡ operands.word_of value }
+{
+    (value.cast_unsigned() % 0x1_0000_0000) as u32
+}
+
+// The word that a meaning is: a constant, or the address of a label.
+fn word_for(places: &[Place], meaning: Option<Meaning>) -> u32
+    ensures { result ≡ operands.word_for places.now meaning }
+{
+    match meaning {
+        None => 0,
+        Some(Meaning::Constant(value)) => word_of(value),
+        Some(Meaning::Label(line)) => (address_of(place_at(places, line)) % 0x1_0000_0000) as u32,
+    }
+}
+
+/// The word that an operand is.
+pub fn value_of(text: &[u8], names: &Names, places: &[Place], operand: Operand) -> u32
+    ensures { result ≡ operands.value_of text.now (known_in names.now) places.now operand }
+{
+    match operand {
+        Operand::Number(value) => word_of(value),
+        Operand::Named(name) => word_for(places, meaning(text, names, name)),
+    }
+}
+
+fn is_within(least: i64, greatest: i64, value: i64) -> bool
+    ensures { result ≡ operands.is_within least greatest value }
+{
+    least <= value && value <= greatest
+}
+
+/// Whether 12 bits hold a signed number.
+pub fn fits_low(value: i64) -> bool
+    ensures { result ≡ operands.fits_low value }
+{
+    is_within(-2048, 2047, value)
+}
+
+/// Whether 20 bits hold a number.
+pub fn fits_upper(value: i64) -> bool
+    ensures { result ≡ operands.is_within (pos 0) (pos 1048575) value }
+{
+    is_within(0, 1_048_575, value)
+}
+
+/// Whether 5 bits hold a number.
+pub fn fits_shift(value: i64) -> bool
+    ensures { result ≡ operands.is_within (pos 0) (pos 31) value }
+{
+    is_within(0, 31, value)
+}

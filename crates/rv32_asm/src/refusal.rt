@@ -1,0 +1,122 @@
+// The cause that a line is refused with.
+
+ghost use Rattle.std.specs.Prelude.{◌≡◌, ◌<◌, ◌^◌, length};
+ghost use Rattle.std.specs.List.{find};
+ghost use Rattle.rv32_asm.specs.NamesView.{known_in};
+ghost use Rattle.rv32_asm.specs.Refusal as refusal;
+
+use crate::causes::AsmCause;
+use crate::checks::{has_early, has_far_target};
+use crate::mnemonics::Section;
+use crate::names::Names;
+use crate::places::{Counts, Place};
+use crate::placing::bytes_of;
+use crate::statements::Line;
+use text_lex::Token;
+
+const CODE_BYTES: u64 = 4 * 16_384;
+
+const RAM_BYTES: u64 = 262_144;
+
+fn overfills_code(place: Place, section: Section, size: u64) -> bool
+    ensures { result ≡ refusal.overfills_code place section size }
+{
+    match section {
+        Section::Code => size > 0 && place.code.saturating_add(size) > CODE_BYTES,
+        _ => false,
+    }
+}
+
+fn overfills_ram(place: Place, section: Section, size: u64) -> bool
+    ensures { result ≡ refusal.overfills_ram place section size }
+{
+    match section {
+        Section::Ram => size > 0 && place.ram.saturating_add(size) > RAM_BYTES,
+        _ => false,
+    }
+}
+
+// Whether a line has a cause.
+fn has(
+    text: &[u8],
+    tokens: &[Token],
+    names: &Names,
+    places: &[Place],
+    counts: Counts,
+    place: Place,
+    line: &Line,
+    cause: AsmCause,
+) -> bool
+    requires { length tokens.now < 2 ^ 32 }
+    ensures { result ≡ refusal.has text.now tokens.now (known_in names.now) places.now counts place line.now cause }
+{
+    match cause {
+        AsmCause::TargetRange => has_far_target(text, names, places, place, &line.statement),
+        AsmCause::CodeFull => overfills_code(
+            place,
+            place.section,
+            bytes_of(text, tokens, names, counts, place.section, line),
+        ),
+        AsmCause::RamFull => overfills_ram(
+            place,
+            place.section,
+            bytes_of(text, tokens, names, counts, place.section, line),
+        ),
+        _ => has_early(text, tokens, names, counts, place.section, line, cause),
+    }
+}
+
+static CAUSES: [AsmCause; 14] = [
+    AsmCause::UnknownStatement,
+    AsmCause::WrongForm,
+    AsmCause::NoRegister,
+    AsmCause::ConstantRange,
+    AsmCause::DefinedTwice,
+    AsmCause::Undefined,
+    AsmCause::WrongKind,
+    AsmCause::WrongSection,
+    AsmCause::TargetRange,
+    AsmCause::CodeFull,
+    AsmCause::RamFull,
+    AsmCause::LongName,
+    AsmCause::UnknownSetting,
+    AsmCause::TooMany,
+];
+
+// The first of some causes that a line has.
+fn first_cause(
+    text: &[u8],
+    tokens: &[Token],
+    names: &Names,
+    places: &[Place],
+    counts: Counts,
+    place: Place,
+    line: &Line,
+    wanted: &[AsmCause],
+) -> Option<AsmCause>
+    requires { length tokens.now < 2 ^ 32 }
+    ensures { result ≡ find (refusal.has text.now tokens.now (known_in names.now) places.now counts place line.now) wanted.now }
+{
+    for cause in wanted {
+        if has(text, tokens, names, places, counts, place, line, *cause) {
+            return Some(*cause);
+        }
+    }
+    None
+}
+
+/// The cause that a line is refused with, if it has one.
+pub fn cause_of(
+    text: &[u8],
+    tokens: &[Token],
+    names: &Names,
+    places: &[Place],
+    counts: Counts,
+    place: Place,
+    line: &Line,
+) -> Option<AsmCause>
+    requires { length tokens.now < 2 ^ 32 }
+    ensures { result ≡ refusal.cause_of text.now tokens.now (known_in names.now) places.now counts place line.now }
+{
+    first_cause(text, tokens, names, places, counts, place, line, &CAUSES)
+}
