@@ -1,6 +1,7 @@
 #!/bin/sh
 # Measures parts of the work in one run on one machine: reading against `sha256sum` over as many bytes,
-# instructions against as many plain additions. Prints a line a part: both times, each the best of seven, and their ratio.
+# assembling against reading the tokens alone, instructions against as many plain additions.
+# Prints a line a part: both times, each the best of seven, and their ratio.
 # First build the program: (cd crates/bench_parts && rt run)
 set -eu
 cd "$(dirname "$0")/.."
@@ -32,6 +33,10 @@ for part in lines comment number instructions; do
     hash=$(best sha256sum "$folder/$part")
     echo "tokens-$part $count: $((took / 1000)) us, sha256sum $((hash / 1000)) us, ratio $((took * 100 / hash))/100"
 done
+names=150000
+took=$(best "$program" assemble-names "$names")
+plain=$(best "$program" tokens-names "$names")
+echo "assemble-names $names: $((took / 1000)) us, tokens alone $((plain / 1000)) us, ratio $((took * 100 / plain))/100"
 instructions=${2:-100000000}
 took=$(best "$program" instructions "$instructions")
 plain=$(best "$program" additions "$instructions")

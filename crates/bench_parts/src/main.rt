@@ -2,6 +2,7 @@
 // count, and may go on with further pairs. Each pair gives one line, which does not depend on speed.
 #![tactic(auto)]
 
+mod assembling;
 mod lexing;
 mod running;
 
@@ -15,6 +16,8 @@ fn done(alloc: Global, part: &str, count: usize) -> anyhow::Result<usize> {
         "tokens-comment" => lexing::comment(alloc, count),
         "tokens-number" => lexing::number(alloc, count),
         "tokens-instructions" => lexing::instructions(alloc, count),
+        "tokens-names" => assembling::names_read(alloc, count),
+        "assemble-names" => assembling::names_assembled(alloc, count),
         "instructions" => running::instructions(alloc, count),
         "additions" => running::additions(count),
         _ => anyhow::bail!("no part is called {part}"),
