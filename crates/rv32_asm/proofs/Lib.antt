@@ -1,5 +1,19 @@
 pub mod NameLaws
 pub mod RowLaws
+pub mod LineLaws
 pub mod TokenCount
 pub mod CauseLaws
+pub mod PlainForms
+pub mod MadeSteps
+pub mod MadeCounts
+pub mod MadeWords
+pub mod MadeSections
+pub mod MadeForms
+pub mod MadeUnused
+pub mod MadeFields
+pub mod MadeSpelling
+pub mod MadeDistinct
+pub mod MadeServices
+pub mod MadeNames
+pub mod Made
 mod Worked

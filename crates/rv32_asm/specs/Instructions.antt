@@ -1,6 +1,6 @@
 -- The instructions that a statement gives.
-use Rattle.std.specs.Prelude.{ℕ, ℤ, pos, negsuc, ◌+◌, ◌-◌, ◌/◌, ◌%◌, ◌^◌, List, [], ◌∷◌, map, replicate, Option, Some, if◌then◌else◌, nat_lt}
-use Rattle.std.specs.Prelude.{unwrap_or}
+use Rattle.std.specs.Prelude.{ℕ, ℤ, pos, negsuc, ◌+◌, ◌-◌, ◌/◌, ◌%◌, ◌^◌, List, [], ◌∷◌, map, replicate, Option, Some, None, unwrap_or, if◌then◌else◌, nat_lt}
+use Rattle.std.specs.Option.{option_to_list}
 use Rattle.text_lex.specs.declared.Token.{Token}
 use Rattle.rv32_isa.specs.declared.Instr.{Instr}
 use Rattle.rv32_isa.specs.declared.Instr.TheVariants as instr
@@ -131,20 +131,24 @@ distance_to places from _ = pos 0
 abbrev pub target_distance : List ℕ → Names → List Place → Place → Span → ℤ
 target_distance text names places from s = distance_to places from (meaning names (spelling text s))
 
+-- the instruction that a statement gives alone, where its line begins here
+abbrev pub instruction : List ℕ → Names → List Place → Place → Statement → Option Instr
+instruction text names places from (Registers op d s t) = Some (of_registers op (register_of d) (register_of s) (register_of t))
+instruction text names places from (Immediate op d s c) = Some (of_immediate op (register_of d) (register_of s) (constant text names c))
+instruction text names places from (Shift op d s c) = Some (of_shift op (register_of d) (register_of s) (constant text names c))
+instruction text names places from (Store op t s c) = Some (of_store op (register_of s) (register_of t) (constant text names c))
+instruction text names places from (Branch op s t target) = Some (of_branch op (register_of s) (register_of t) (target_distance text names places from target))
+instruction text names places from (Upper op d c) = Some (of_upper op (register_of d) (constant text names c))
+instruction text names places from (Jump d target) = Some (instr.Jal (register_of d) (target_distance text names places from target))
+instruction text names places from (Alone op) = Some (of_alone op)
+instruction text names places from _ = None
+
 -- the instructions that a statement gives, where its line begins here
 abbrev pub instructions : List ℕ → Names → List Place → Place → Statement → List Instr
-instructions text names places from (Registers op d s t) = of_registers op (register_of d) (register_of s) (register_of t) ∷ []
-instructions text names places from (Immediate op d s c) = of_immediate op (register_of d) (register_of s) (constant text names c) ∷ []
-instructions text names places from (Shift op d s c) = of_shift op (register_of d) (register_of s) (constant text names c) ∷ []
-instructions text names places from (Store op t s c) = of_store op (register_of s) (register_of t) (constant text names c) ∷ []
-instructions text names places from (Branch op s t target) = of_branch op (register_of s) (register_of t) (target_distance text names places from target) ∷ []
-instructions text names places from (Upper op d c) = of_upper op (register_of d) (constant text names c) ∷ []
-instructions text names places from (Jump d target) = instr.Jal (register_of d) (target_distance text names places from target) ∷ []
-instructions text names places from (Alone op) = of_alone op ∷ []
 instructions text names places from (LoadConstant d c) = load_constant (register_of d) (constant text names c)
 instructions text names places from (LoadValue d v) = load_word (register_of d) (value_of text names places v)
 instructions text names places from (CallService number) = instr.Addi 17 0 (pos number) ∷ instr.Ecall ∷ []
-instructions text names places from _ = []
+instructions text names places from statement = option_to_list (instruction text names places from statement)
 
 -- the words that a statement gives
 abbrev pub words : List ℕ → List Token → Names → List Place → Place → Statement → List ℕ

@@ -3,10 +3,12 @@
 ghost use Rattle.std.specs.Prelude.{◌≡◌, ◌<◌, ◌≤◌, ◌^◌, ℕ, List, false, not, length, map, OnOk, IfOk, IfErr};
 ghost use Rattle.std.specs.List.{list_any};
 ghost use Rattle.text_lex.specs.Tokens.{lexed, Tokens};
+ghost use Rattle.app_image.specs.Raw.{IsMade};
 ghost use Rattle.rv32_asm.specs.NamesView.{known_in};
 ghost use Rattle.rv32_asm.specs.Names.{no_counts, names_of as names_for};
 ghost use Rattle.rv32_asm.specs.Operands.{no_place, registers_in, value_of as value_for};
 ghost use Rattle.rv32_asm.specs.Causes.{is_register, has_constant_out_of_range, has_far_target, has_long_name};
+ghost use Rattle.rv32_asm.specs.Assembled as assembled;
 ghost use Rattle.rv32_asm.specs.Assembled.{assembled, assembled_from, assembled_lines, empty_image, with_statement, with_words, Gives, IsFault};
 ghost use Rattle.rv32_asm.specs.DraftView.{raw_of};
 
@@ -51,6 +53,38 @@ fn five_words(text: &[u8], names: &Names, places: &[Place], values: &[Operand; 5
     ]
 }
 
+// The task with this name on a line.
+fn task_of(name: &[u8], values: [u32; 5], line: u32) -> TaskDef
+    requires some { 1 ≤ length name.now }
+    requires short { length name.now ≤ 16 }
+    ensures { result ≡ assembled.task_of name.now line values }
+{
+    let [entry, prio, quanta, qsize, sp] = values;
+    TaskDef {
+        name: Name::of(name),
+        entry,
+        prio,
+        quanta,
+        qsize,
+        sp,
+        line,
+    }
+}
+
+// The vector on a line.
+fn vector_of(values: [u32; 4], line: u32) -> VectorDef
+    ensures { result ≡ assembled.vector_of line values }
+{
+    let [number, level, entry, sp] = values;
+    VectorDef {
+        number,
+        level,
+        entry,
+        sp,
+        line,
+    }
+}
+
 // Adds what a line gives that begins at a place and has no cause.
 fn add_line(
     draft: &mut Draft,
@@ -69,60 +103,38 @@ fn add_line(
 {
     match &line.statement {
         Statement::Task(name, values) => {
-            let [entry, prio, quanta, qsize, sp] = five_words(text, names, places, values);
-            draft.tasks.push(TaskDef {
-                name: Name::of(spelling(text, *name)),
-                entry,
-                prio,
-                quanta,
-                qsize,
-                sp,
-                line: line.number,
-            })?;
+            let values = five_words(text, names, places, values);
+            let task = task_of(spelling(text, *name), values, line.number);
+            draft.tasks.push(task)?;
             Ok(())
         }
         Statement::Object(name, kind, values) => {
-            let f = four_words(text, names, places, values);
             draft.objects.push(ObjDef {
                 name: Name::of(spelling(text, *name)),
                 kind: *kind,
-                f,
+                f: four_words(text, names, places, values),
                 line: line.number,
             })?;
             Ok(())
         }
         Statement::Vector(values) => {
-            let [number, level, entry, sp] = four_words(text, names, places, values);
-            draft.vectors.push(VectorDef {
-                number,
-                level,
-                entry,
-                sp,
-                line: line.number,
-            })?;
+            let values = four_words(text, names, places, values);
+            draft.vectors.push(vector_of(values, line.number))?;
             Ok(())
         }
         Statement::Setting(Some(key), value) => {
-            let value = value_of(text, names, places, *value);
             draft.config.push(ConfigLine {
                 key: *key,
-                value,
+                value: value_of(text, names, places, *value),
                 line: line.number,
             })?;
             Ok(())
         }
         Statement::Setting(None, _) => Ok(()),
-        _ => {
-            draft.words.clear();
-            push_words(
-                &mut draft.words,
-                text,
-                tokens,
-                names,
-                places,
-                place,
-                &line.statement,
-            )?;
+        statement => {
+            let words = &mut draft.words;
+            words.clear();
+            push_words(words, text, tokens, names, places, place, statement)?;
             add_scratch(draft, place.section)
         }
     }
@@ -214,6 +226,7 @@ pub fn assemble(alloc: Global, text: &[u8], tokens: &[Token]) -> Result<(RawImag
     requires short { length text.now ≤ TEXT_LIMIT }
     requires tokens { lexed text.now ≡ Tokens tokens.now }
     ensures image { IfOk result (λ given. assembled text.now tokens.now ≡ Gives given.0 given.1) }
+    ensures made { IfOk result (λ given. IsMade given.0) }
     ensures fault { IfErr result (λ error. IsFault error (assembled text.now tokens.now)) }
 {
     assemble_few(alloc, text, tokens)

@@ -1,6 +1,6 @@
 // The words that statements give.
 
-ghost use Rattle.std.specs.Prelude.{◌≡◌, ◌<◌, ◌++◌, [], ◌∷◌, map, not, true, false, pos, replicate, OnOk};
+ghost use Rattle.std.specs.Prelude.{◌≡◌, ◌<◌, ◌++◌, [], ◌∷◌, map, not, true, false, pos, replicate, OnOk, IfSome};
 ghost use Rattle.std.specs.List.{list_any};
 ghost use Rattle.rv32_isa.specs.Listing.{encoded, IsInRange};
 ghost use Rattle.rv32_isa.specs.declared.Instr.TheVariants.{Addi, Ecall};
@@ -301,6 +301,55 @@ fn push_zeros(words: &mut Vec<u32>, count: u64) -> Result<(), AllocError>
     Ok(())
 }
 
+// The instruction that a statement gives alone.
+fn instruction(
+    text: &[u8],
+    names: &Names,
+    places: &[Place],
+    from: Place,
+    statement: &Statement,
+) -> Option<Instr>
+    requires registers { list_any (λ r. not (is_register r)) (registers_in statement.now) ≡ false }
+    requires constant { has_constant_out_of_range text.now (known_in names.now) statement.now ≡ false }
+    requires target { has_far_target text.now (known_in names.now) places.now from statement.now ≡ false }
+    ensures value { result ≡ instructions.instruction text.now (known_in names.now) places.now from statement.now }
+    ensures range { IfSome result IsInRange }
+{
+    match statement {
+        Statement::Registers(op, d, s, t) => {
+            let rd = register_of(*d);
+            Some(of_registers(*op, rd, register_of(*s), register_of(*t)))
+        }
+        Statement::Immediate(op, d, s, constant) => {
+            let imm = low_constant(text, names, *constant);
+            Some(of_immediate(*op, register_of(*d), register_of(*s), imm))
+        }
+        Statement::Shift(op, d, s, constant) => {
+            let imm = shift_constant(text, names, *constant);
+            Some(of_shift(*op, register_of(*d), register_of(*s), imm))
+        }
+        Statement::Store(op, t, s, constant) => {
+            let imm = low_constant(text, names, *constant);
+            Some(of_store(*op, register_of(*s), register_of(*t), imm))
+        }
+        Statement::Branch(op, s, t, target) => {
+            let imm = branch_distance(text, names, places, from, *target);
+            Some(of_branch(*op, register_of(*s), register_of(*t), imm))
+        }
+        Statement::Upper(op, d, constant) => {
+            let imm = upper_constant(text, names, *constant);
+            Some(of_upper(*op, register_of(*d), imm))
+        }
+        Statement::Jump(d, target) => {
+            let rd = register_of(*d);
+            let imm = jump_distance(text, names, places, from, *target);
+            Some(Instr::Jal { rd, imm })
+        }
+        Statement::Alone(op) => Some(of_alone(*op)),
+        _ => None,
+    }
+}
+
 /// Adds the words that a statement gives.
 pub fn push_words(
     words: &mut Vec<u32>,
@@ -317,63 +366,27 @@ pub fn push_words(
     ensures { OnOk result (words.new.items ≡ words.old.items ++ instructions.words text.now tokens.now (known_in names.now) places.now from statement.now) }
 {
     match statement {
-        Statement::Words(at, count) => push_values(
-            words,
-            text,
-            names,
-            places,
-            part(tokens, *at, *count),
-        ),
-        Statement::Space(constant) => push_zeros(
-            words,
-            space_size(constant_of(text, names, *constant)) / 4,
-        ),
-        Statement::Registers(op, d, s, t) => {
-            push_instr(
-                words,
-                of_registers(*op, register_of(*d), register_of(*s), register_of(*t)),
-            )
+        Statement::Words(at, count) => {
+            let listed = part(tokens, *at, *count);
+            push_values(words, text, names, places, listed)
         }
-        Statement::Immediate(op, d, s, constant) => {
-            let imm = low_constant(text, names, *constant);
-            push_instr(
-                words,
-                of_immediate(*op, register_of(*d), register_of(*s), imm),
-            )
+        Statement::Space(constant) => {
+            let size = space_size(constant_of(text, names, *constant));
+            push_zeros(words, size / 4)
         }
-        Statement::Shift(op, d, s, constant) => {
-            let imm = shift_constant(text, names, *constant);
-            push_instr(words, of_shift(*op, register_of(*d), register_of(*s), imm))
-        }
-        Statement::Store(op, t, s, constant) => {
-            let imm = low_constant(text, names, *constant);
-            push_instr(words, of_store(*op, register_of(*s), register_of(*t), imm))
-        }
-        Statement::Branch(op, s, t, target) => {
-            let imm = branch_distance(text, names, places, from, *target);
-            push_instr(words, of_branch(*op, register_of(*s), register_of(*t), imm))
-        }
-        Statement::Upper(op, d, constant) => {
-            let imm = upper_constant(text, names, *constant);
-            push_instr(words, of_upper(*op, register_of(*d), imm))
-        }
-        Statement::Jump(d, target) => {
-            let imm = jump_distance(text, names, places, from, *target);
-            let rd = register_of(*d);
-            push_instr(words, Instr::Jal { rd, imm })
-        }
-        Statement::Alone(op) => push_instr(words, of_alone(*op)),
         Statement::LoadConstant(d, operand) => {
             push_constant(words, register_of(*d), constant(text, names, *operand))
         }
         Statement::LoadValue(d, value) => {
-            push_load(
-                words,
-                register_of(*d),
-                value_of(text, names, places, *value),
-            )
+            let value = value_of(text, names, places, *value);
+            push_load(words, register_of(*d), value)
         }
         Statement::CallService(number) => push_call(words, *number),
-        _ => Ok(()),
+        _ => {
+            if let Some(instr) = instruction(text, names, places, from, statement) {
+                push_instr(words, instr)?;
+            }
+            Ok(())
+        }
     }
 }

@@ -36,32 +36,42 @@ fn overfills_ram(place: Place, section: Section, size: u64) -> bool
     }
 }
 
-// Whether a line has a cause.
-fn has(
-    text: &[u8],
-    tokens: &[Token],
-    names: &Names,
-    places: &[Place],
+// A line of a text, with all that decides whether it has a cause.
+#[derive(Clone, Copy)]
+struct LineContext<'a> {
+    text: &'a [u8],
+    tokens: &'a [Token],
+    names: &'a Names<'a>,
+    places: &'a [Place],
     counts: Counts,
     place: Place,
-    line: &Line,
-    cause: AsmCause,
-) -> bool
-    requires { length tokens.now < 2 ^ 32 }
-    ensures { result ≡ refusal.has text.now tokens.now (known_in names.now) places.now counts place line.now cause }
+    line: &'a Line,
+}
+
+// Whether a line has a cause.
+fn has(context: &LineContext, cause: AsmCause) -> bool
+    requires { length context.now.tokens.now < 2 ^ 32 }
+    ensures { result ≡ refusal.has context.now.text.now context.now.tokens.now (known_in context.now.names.now) context.now.places.now context.now.counts context.now.place context.now.line.now cause }
 {
+    let LineContext {
+        text,
+        tokens,
+        names,
+        places,
+        counts,
+        place,
+        line,
+    } = *context;
     match cause {
         AsmCause::TargetRange => has_far_target(text, names, places, place, &line.statement),
-        AsmCause::CodeFull => overfills_code(
-            place,
-            place.section,
-            bytes_of(text, tokens, names, counts, place.section, line),
-        ),
-        AsmCause::RamFull => overfills_ram(
-            place,
-            place.section,
-            bytes_of(text, tokens, names, counts, place.section, line),
-        ),
+        AsmCause::CodeFull => {
+            let size = bytes_of(text, tokens, names, counts, place.section, line);
+            overfills_code(place, place.section, size)
+        }
+        AsmCause::RamFull => {
+            let size = bytes_of(text, tokens, names, counts, place.section, line);
+            overfills_ram(place, place.section, size)
+        }
         _ => has_early(text, tokens, names, counts, place.section, line, cause),
     }
 }
@@ -84,21 +94,12 @@ static CAUSES: [AsmCause; 14] = [
 ];
 
 // The first of some causes that a line has.
-fn first_cause(
-    text: &[u8],
-    tokens: &[Token],
-    names: &Names,
-    places: &[Place],
-    counts: Counts,
-    place: Place,
-    line: &Line,
-    wanted: &[AsmCause],
-) -> Option<AsmCause>
-    requires { length tokens.now < 2 ^ 32 }
-    ensures { result ≡ find (refusal.has text.now tokens.now (known_in names.now) places.now counts place line.now) wanted.now }
+fn first_cause(context: &LineContext, wanted: &[AsmCause]) -> Option<AsmCause>
+    requires { length context.now.tokens.now < 2 ^ 32 }
+    ensures { result ≡ find (refusal.has context.now.text.now context.now.tokens.now (known_in context.now.names.now) context.now.places.now context.now.counts context.now.place context.now.line.now) wanted.now }
 {
     for cause in wanted {
-        if has(text, tokens, names, places, counts, place, line, *cause) {
+        if has(context, *cause) {
             return Some(*cause);
         }
     }
@@ -118,5 +119,14 @@ pub fn cause_of(
     requires { length tokens.now < 2 ^ 32 }
     ensures { result ≡ refusal.cause_of text.now tokens.now (known_in names.now) places.now counts place line.now }
 {
-    first_cause(text, tokens, names, places, counts, place, line, &CAUSES)
+    let context = LineContext {
+        text,
+        tokens,
+        names,
+        places,
+        counts,
+        place,
+        line,
+    };
+    first_cause(&context, &CAUSES)
 }

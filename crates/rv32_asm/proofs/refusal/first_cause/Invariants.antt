@@ -5,4 +5,4 @@ use Rattle.rv32_asm.specs.Refusal.{has}
 use Rattle.rv32_asm.proofs.refusal.first_cause.Given as goal
 
 abbrev pub invariant-loop-cause : goal.invariant-loop-cause
-invariant-loop-cause l = find (has l.text l.tokens (known_in l.names) l.places l.counts l.place l.line) (drop l.cause-index l.wanted) ≡ find (has l.text l.tokens (known_in l.names) l.places l.counts l.place l.line) l.wanted
+invariant-loop-cause l = find (has l.context.text.now l.context.tokens.now (known_in l.context.names.now) l.context.places.now l.context.counts l.context.place l.context.line.now) (drop l.cause-index l.wanted) ≡ find (has l.context.text.now l.context.tokens.now (known_in l.context.names.now) l.context.places.now l.context.counts l.context.place l.context.line.now) l.wanted
