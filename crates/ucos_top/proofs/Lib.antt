@@ -1,4 +1,4 @@
+pub mod CaseLaws
 pub mod Digits
-pub mod LineLemmas
-pub mod MadeLemmas
+pub mod RowLemmas
 pub mod TopLemmas

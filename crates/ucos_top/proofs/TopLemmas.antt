@@ -1,9 +1,13 @@
 -- How an ending is known from its parts.
 use Rattle.std.proofs.Common.{◌≡◌, ◌≤◌, ℕ, List, length, Option, Some, None, Result, Ok, Err, IfSome, subst, inl, inr, nat_lt, false}
 use Rattle.std.proofs.lemmas.Bool.{le-ltb}
+use Rattle.std.specs.Prelude.{MatchResult}
+use Rattle.std.specs.Io.KnownBytes.{Appends}
 use Rattle.outside.specs.Causes.{HasCause}
 use Rattle.outside.specs.Written.{WritesPiece}
 use Rattle.ucos_top.specs.declared.TheConstants.{INPUT_LIMIT}
+use Rattle.ucos_top.specs.declared.Status.{Status}
+use Rattle.ucos_top.specs.declared.Status.TheVariants.{Done, WriteFault}
 use Rattle.ucos_top.specs.declared.words.Command.{Command}
 use Rattle.ucos_top.specs.Answer.{Answer, case_answer, command_answer, defined_of}
 use Rattle.ucos_top.specs.Case.{case_of}
@@ -13,6 +17,11 @@ use Rattle.ucos_top.specs.Told.{AppendsUnlessRose}
 pub line_written : {T E : Type 0} (r : Result T E) (old new : Option (List ℕ)) (before now : ℕ) (line : List ℕ) → WritesPiece old new r line → HasCause before now r → AppendsUnlessRose old new before now line
 line_written (Ok x) old new before now line p cause = inl p
 line_written (Err x) old new before now line p cause = inr (cause.failed, p)
+
+-- a command that wrote is done where its whole text was written
+pub whole_written : {T E : Type 0} (r : Result T E) (ending : Status) (old new : Option (List ℕ)) (text : List ℕ) → MatchResult r (λ _. ending ≡ Done) (λ _. ending ≡ WriteFault) → WritesPiece old new r text → ending ≡ Done → Appends old new text
+whole_written (Ok x) ending old new text ends p done = p
+whole_written (Err x) ending old new text ends p done = absurd cc
 
 -- what holds of the answer on the bytes that were read holds of the defined answer
 pub told_answer : (words : Option Command) (command : Command) (input : List ℕ) (left : Option (List ℕ)) (P : Answer → Type 0) → words ≡ Some command

@@ -1,14 +1,17 @@
 -- The defined answer of a command on an input: a status, and the bytes to write.
-use Rattle.std.specs.Prelude.{ℕ, List, [], length, nat_lt, Option, None, Some, if◌then◌else◌, codes}
+use Rattle.std.specs.Prelude.{ℕ, List, [], length, nat_lt, Option, None, Some, if◌then◌else◌}
 use Rattle.std.specs.Option.{option_map}
 use Rattle.ucos_top.specs.declared.TheConstants.{INPUT_LIMIT}
 use Rattle.ucos_top.specs.declared.Status.{Status}
 use Rattle.ucos_top.specs.declared.Status.TheVariants as status
 use Rattle.ucos_top.specs.declared.words.Command.{Command}
-use Rattle.ucos_top.specs.declared.words.Command.TheVariants.{Run}
+use Rattle.ucos_top.specs.declared.words.Command.TheVariants.{Run, Listing, Binary}
 use Rattle.app_image.specs.Image.{ImageRecord}
+use Rattle.app_image.specs.Layout.{layout}
 use Rattle.machine_core.specs.Run.{run_text}
-use Rattle.ucos_top.specs.Case.{case_of}
+use Rattle.ucos_top.specs.Case.{Case, Accepts, Refuses, case_of}
+use Rattle.ucos_top.specs.Listing.{listing}
+use Rattle.ucos_top.specs.Refusals.{refusal_line}
 use Rattle.ucos_top.specs.Words.{command_of}
 
 pub record Answer : Type 0 where
@@ -19,14 +22,16 @@ pub record Answer : Type 0 where
 unfoldable pub printed : ImageRecord → ℕ → List ℕ
 printed image count = run_text image count
 
--- the line that refuses an input
-unfoldable pub refusal_line : List ℕ
-refusal_line = codes "refused 0 X1\n"
+-- what a command writes of an image
+abbrev pub image_text : Command → ImageRecord → List ℕ
+image_text (Run count) image = printed image count
+image_text Listing image = listing image
+image_text Binary image = layout image
 
 -- of a command on the case that was read
-abbrev pub case_answer : Command → Option ImageRecord → Answer
-case_answer command None = record { status = status.Refused; text = refusal_line }
-case_answer (Run count) (Some image) = record { status = status.Done; text = printed image count }
+abbrev pub case_answer : Command → Case → Answer
+case_answer command (Refuses line cause) = record { status = status.Refused; text = refusal_line line cause }
+case_answer command (Accepts image) = record { status = status.Done; text = image_text command image }
 
 -- of a command on an input
 abbrev pub command_answer : Option Command → List ℕ → Answer

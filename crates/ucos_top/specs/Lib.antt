@@ -1,9 +1,8 @@
-pub mod Registers
-pub mod Lines
-pub mod Program
 pub mod Case
 pub mod Answers
 pub mod Words
 pub mod Limit
+pub mod Listing
+pub mod Refusals
 pub mod Answer
 pub mod Told

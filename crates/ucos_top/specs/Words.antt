@@ -8,7 +8,7 @@ use Rattle.std.specs.declared.string.String.{String}
 use Rattle.std.specs.declared.alloc.Global.{Global}
 use Rattle.ucos_top.specs.declared.TheConstants.{COUNT_LIMIT}
 use Rattle.ucos_top.specs.declared.words.Command.{Command}
-use Rattle.ucos_top.specs.declared.words.Command.TheVariants.{Run}
+use Rattle.ucos_top.specs.declared.words.Command.TheVariants.{Run, Listing, Binary}
 
 -- the value of decimal digits behind a front of this value
 abbrev pub value_of : ℕ → List ℕ → ℕ
@@ -27,11 +27,17 @@ abbrev pub run_command : Option ℕ → Option Command
 run_command None = None
 run_command (Some count) = Some (Run count)
 
+-- `list` and `image`
+abbrev pub one_word : List ℕ → Option Command
+one_word first = if bytes_eq first (codes "list") then Some Listing else (if bytes_eq first (codes "image") then Some Binary else None)
+
+-- `run direct N`
 abbrev pub three_words : List ℕ → List ℕ → List ℕ → Option Command
 three_words first method count = if bytes_eq first (codes "run") && bytes_eq method (codes "direct") then run_command (count_word count) else None
 
--- the command that the words are: `run direct N`
+-- the command that the words are
 abbrev pub command_of : List (List ℕ) → Option Command
+command_of (first ∷ []) = one_word first
 command_of (first ∷ method ∷ count ∷ []) = three_words first method count
 command_of _ = None
 

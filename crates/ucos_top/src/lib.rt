@@ -2,14 +2,15 @@
 #![tactic(auto)]
 
 mod case;
-mod lines;
-mod program;
+mod causes;
+mod listing;
 mod reading;
-mod registers;
 mod text;
 mod top;
 mod words;
 
+pub use causes::{CaseCause, CaseError};
+pub use listing::write_listing;
 pub use top::ucos_main;
 pub use words::{Command, command_of};
 
@@ -18,14 +19,6 @@ pub const INPUT_LIMIT: usize = 4_194_304;
 
 /// The most task steps that a run may be asked for.
 pub const COUNT_LIMIT: u32 = 1_000_000;
-
-/// Why an input is not read as a case.
-#[derive(Clone, Copy, Debug, PartialEq, Eq)]
-pub enum CaseError {
-    NoMemory,
-    /// The input is no case of the kind that is built yet.
-    NotBuilt,
-}
 
 /// How the program ends. The number of a status is the program's exit status.
 #[derive(Clone, Copy, Debug, PartialEq, Eq)]

@@ -1,21 +1,24 @@
-ghost use Rattle.std.specs.Prelude.{◌≡◌, ◌≢◌, ◌⊎◌, ◌≤◌, ◌↔◌, length, IfOk, IsErrOf, IfSome, IsNone, None, Some};
+ghost use Rattle.std.specs.Prelude.{◌≡◌, ◌≢◌, ◌⊎◌, ◌≤◌, ◌↔◌, length, IfOk, IsErrOf, IfSome, IsNone, MatchResult};
 ghost use Rattle.std.specs.Io.KnownBytes.{Appends};
 ghost use Rattle.outside.specs.Causes.{Rose, DidNotRise};
 ghost use Rattle.outside.specs.Written.{AppendsPrefix};
 ghost use Rattle.ucos_top.specs.Words.{command_of, texts};
-ghost use Rattle.ucos_top.specs.Answer.{case_answer, defined, refusal_line, Reads, TakesMemory};
+ghost use Rattle.ucos_top.specs.Answer.{case_answer, defined, image_text, printed, Reads, TakesMemory};
 ghost use Rattle.ucos_top.specs.Case.{case_of};
+ghost use Rattle.ucos_top.specs.Refusals.{refusal_line};
 ghost use Rattle.ucos_top.specs.Limit.{IsWithinLimit};
 ghost use Rattle.ucos_top.specs.Told.{ReadWhole, AppendsUnlessRose, OrNoMemory, IsWhole, IsSilent, IsRun, IsAfterReading, IsEarly};
 
 use crate::case::read_case;
+use crate::causes::{CaseCause, CaseError, refusal_line};
+use crate::listing::write_listing;
 use crate::reading::{InputError, read_input};
 use crate::text::write_run;
 use crate::words::{Command, command_of};
-use crate::{CaseError, INPUT_LIMIT, Status};
-use app_image::Image;
+use crate::{COUNT_LIMIT, INPUT_LIMIT, Status};
+use app_image::{Image, write_image};
 use machine_core::Machine;
-use outside::{Sink, Source};
+use outside::{Failed, Sink, Source};
 use std::alloc::Global;
 
 /// Does what the words ask for, and answers how it ended. The defined answer of the words is known
@@ -106,38 +109,59 @@ fn obey<K: Sink>(alloc: Global, command: Command, input: &[u8], sink: &mut K) ->
     match read_case(alloc, input) {
         Ok(image) => run(alloc, command, &image, sink),
         Err(CaseError::NoMemory) => Status::NoMemory,
-        Err(CaseError::NotBuilt) => refuse(sink),
+        Err(CaseError::At(line, cause)) => refuse(line, cause, sink),
     }
 }
 
-// Writes the line that refuses an input. A fault of the sink does not change the status.
-#[tactic(auto, unfolding(crate::specs::Answer::refusal_line))]
-fn refuse<K: Sink>(sink: &mut K) -> Status
+// Writes the line that refuses a case. A fault of the sink does not change the status.
+fn refuse<K: Sink>(line: u32, cause: CaseCause, sink: &mut K) -> Status
     ensures status { result ≡ Status.Refused }
     ensures sink_count { K.faults sink.old ≤ K.faults sink.new }
-    ensures text { AppendsUnlessRose (K.held sink.old) (K.held sink.new) (K.faults sink.old) (K.faults sink.new) refusal_line }
+    ensures text { AppendsUnlessRose (K.held sink.old) (K.held sink.new) (K.faults sink.old) (K.faults sink.new) (refusal_line line cause) }
 {
-    let _ = sink.write(b"refused 0 X1\n");
+    let _ = sink.write(refusal_line(line, cause).as_slice());
     Status::Refused
 }
 
 // Does a command on an accepted case. All memory is taken before the first write.
 fn run<K: Sink>(alloc: Global, command: Command, image: &Image, sink: &mut K) -> Status
     requires { IsWithinLimit command }
-    ensures own { (result ≡ Status.NoMemory) ⊎ ((result ≡ Status.WriteFault) ⊎ (result ≡ (case_answer command (Some image.now)).status)) }
-    ensures status { IsRun (case_answer command (Some image.now)).status }
+    ensures own { (result ≡ Status.NoMemory) ⊎ ((result ≡ Status.WriteFault) ⊎ (result ≡ Status.Done)) }
     ensures sink_count { K.faults sink.old ≤ K.faults sink.new }
     ensures no_memory { result ≡ Status.NoMemory → sink.new ≡ sink.old }
     ensures write_fault { result ≡ Status.WriteFault → Rose (K.faults sink.old) (K.faults sink.new) }
-    ensures write_fault_text { result ≡ Status.WriteFault → AppendsPrefix (K.held sink.old) (K.held sink.new) (case_answer command (Some image.now)).text }
-    ensures whole_text { IsRun result → Appends (K.held sink.old) (K.held sink.new) (case_answer command (Some image.now)).text }
+    ensures write_fault_text { result ≡ Status.WriteFault → AppendsPrefix (K.held sink.old) (K.held sink.new) (image_text command image.now) }
+    ensures whole_text { result ≡ Status.Done → Appends (K.held sink.old) (K.held sink.new) (image_text command image.now) }
 {
-    let Command::Run(count) = command;
+    match command {
+        Command::Run(count) => run_case(alloc, image, count, sink),
+        Command::Listing => ending(write_listing(image, sink)),
+        Command::Binary => ending(write_image(image, sink)),
+    }
+}
+
+// How a command ends that wrote, and takes no memory.
+fn ending(written: Result<(), Failed>) -> Status
+    ensures { MatchResult written (λ _. result ≡ Status.Done) (λ _. result ≡ Status.WriteFault) }
+{
+    match written {
+        Ok(()) => Status::Done,
+        Err(_) => Status::WriteFault,
+    }
+}
+
+// Runs a case to so many task steps.
+fn run_case<K: Sink>(alloc: Global, image: &Image, count: u32, sink: &mut K) -> Status
+    requires { count ≤ COUNT_LIMIT }
+    ensures own { (result ≡ Status.NoMemory) ⊎ ((result ≡ Status.WriteFault) ⊎ (result ≡ Status.Done)) }
+    ensures sink_count { K.faults sink.old ≤ K.faults sink.new }
+    ensures no_memory { result ≡ Status.NoMemory → sink.new ≡ sink.old }
+    ensures write_fault { result ≡ Status.WriteFault → Rose (K.faults sink.old) (K.faults sink.new) }
+    ensures write_fault_text { result ≡ Status.WriteFault → AppendsPrefix (K.held sink.old) (K.held sink.new) (printed image.now count) }
+    ensures whole_text { result ≡ Status.Done → Appends (K.held sink.old) (K.held sink.new) (printed image.now count) }
+{
     match Machine::load(alloc, image) {
-        Ok(machine) => match write_run(machine, image, count, sink) {
-            Ok(()) => Status::Done,
-            Err(_) => Status::WriteFault,
-        },
+        Ok(machine) => ending(write_run(machine, image, count, sink)),
         Err(_) => Status::NoMemory,
     }
 }

@@ -10,14 +10,20 @@ pub enum Command {
     /// The printed run of the case to so many task steps, at most `COUNT_LIMIT`, where interrupt code
     /// posts at once.
     Run(u32),
+    /// The listing of the case's image.
+    Listing,
+    /// The case's image in the binary format.
+    Binary,
 }
 
-/// The command that the words are, if they are one: `run direct N`.
+/// The command that the words are, if they are one: `run direct N`, `list` or `image`.
 pub fn command_of(words: &[String]) -> Option<Command>
     ensures value { result ≡ command_of (texts words.now) }
     ensures within { IfSome result IsWithinLimit }
 {
     match words {
+        [first] if first.as_str() == "list" => Some(Command::Listing),
+        [first] if first.as_str() == "image" => Some(Command::Binary),
         [first, method, count] if first.as_str() == "run" && method.as_str() == "direct" => {
             Some(Command::Run(count_of(count.as_bytes())?))
         }

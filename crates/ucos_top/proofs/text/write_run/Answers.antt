@@ -1,4 +1,4 @@
-use Rattle.std.proofs.Common.{◌≡◌, ◌++◌, ◌<◌, [], arith, ap, sym}
+use Rattle.std.proofs.Common.{◌≡◌, ◌++◌, ◌<◌, [], arith}
 use Rattle.std.proofs.KnownBytes.{Appends-trans, Appends-nil}
 use Rattle.std.proofs.lemmas.Result.{err_from_is_err_and}
 use Rattle.outside.proofs.Known.{AppendsPrefix-after, WritesPiece-after}

@@ -1,0 +1,10 @@
+use Rattle.std.proofs.Common.{◌≡◌}
+use Rattle.ucos_top.specs.declared.words.Command.TheVariants.{Binary}
+use Rattle.ucos_top.proofs.TopLemmas.{whole_written}
+use Rattle.ucos_top.proofs.top.run.Goals as goal
+
+-- the whole image is written
+pub returns-in-Binary-clause-whole_text : goal.returns-in-Binary-clause-whole_text
+returns-in-Binary-clause-whole_text g c =
+    let e : c.args.command ≡ Binary = cc in
+    rw e (whole_written c.write_image.result c.ending-in-Binary.result _ _ _ c.ending-in-Binary.ensures c.write_image.ensures.bytes)

@@ -1,0 +1,27 @@
+-- The line that refuses a case.
+use Rattle.std.specs.Prelude.{ℕ, List, ◌++◌, codes, decimal}
+use Rattle.app_image.specs.CauseNumbers as image
+use Rattle.rv32_asm.specs.Refusal as asm
+use Rattle.ucos_top.specs.declared.causes.CaseCause.{CaseCause}
+use Rattle.ucos_top.specs.declared.causes.CaseCause.TheVariants.{BadByte, NumberTooLarge, OfText, OfImage, Injection}
+
+-- the letter of the stage that refuses: L for the tokens, A for the assembler, I for the image, X for
+-- what is not built
+abbrev pub letter : CaseCause → List ℕ
+letter BadByte = codes "L"
+letter NumberTooLarge = codes "L"
+letter (OfText cause) = codes "A"
+letter (OfImage cause) = codes "I"
+letter Injection = codes "X"
+
+-- the number of the cause in its stage
+abbrev pub number : CaseCause → ℕ
+number BadByte = 1
+number NumberTooLarge = 2
+number (OfText cause) = asm.cause_number cause
+number (OfImage cause) = image.cause_number cause
+number Injection = 2
+
+-- the line that refuses a case, as `refused 3 A5`
+unfoldable pub refusal_line : ℕ → CaseCause → List ℕ
+refusal_line line cause = codes "refused " ++ (decimal line ++ (codes " " ++ (letter cause ++ (decimal (number cause) ++ codes "\n"))))

@@ -1,0 +1,119 @@
+// Why a case is refused, and the line that says so.
+
+ghost use Rattle.std.specs.Prelude.{◌≡◌, ◌++◌, ◌≤◌, ◌+◌, [], ◌∷◌, length, decimal};
+ghost use Rattle.arrayvec.specs.ArrayVec.{array_vec_len};
+ghost use Rattle.rv32_asm.specs.Refusal.{cause_number};
+ghost use Rattle.ucos_top.specs.Refusals.{letter, number, refusal_line};
+
+use app_image::ImageCause;
+use arrayvec::ArrayVec;
+use itoa::Buffer;
+use rv32_asm::AsmCause;
+
+/// Why a case is refused. The stages of reading stand in their order; the first that has a cause
+/// decides.
+#[derive(Clone, Copy, Debug, PartialEq, Eq)]
+pub enum CaseCause {
+    /// L1: a byte that begins no token.
+    BadByte,
+    /// L2: a number out of range.
+    NumberTooLarge,
+    /// A1 to A14: the text is not assembled.
+    OfText(AsmCause),
+    /// I1 to I16: the image is not valid, or its bytes are no image.
+    OfImage(ImageCause),
+    /// X2: a line that is not empty stands behind `.inject` or behind a binary image.
+    Injection,
+}
+
+/// Why an input is not read as a case.
+#[derive(Clone, Copy, Debug, PartialEq, Eq)]
+pub enum CaseError {
+    NoMemory,
+    /// The line, from 1, or 0 where no line is at fault, and the cause.
+    At(u32, CaseCause),
+}
+
+/// A line that refuses a case.
+pub type RefusalLine = ArrayVec<u8, 32>;
+
+// Appends these bytes.
+fn push_bytes(line: &mut RefusalLine, bytes: &[u8])
+    requires room { array_vec_len line.old + length bytes.now ≤ 32 }
+    ensures items { line.new.items ≡ line.old.items ++ bytes.now }
+    ensures len { array_vec_len line.new ≡ array_vec_len line.old + length bytes.now }
+{
+    line.try_extend_from_slice(bytes).unwrap();
+}
+
+// Appends a number.
+fn push_number(line: &mut RefusalLine, n: u32)
+    requires room { array_vec_len line.old + 10 ≤ 32 }
+    ensures items { line.new.items ≡ line.old.items ++ decimal n }
+    ensures len { array_vec_len line.new ≤ array_vec_len line.old + 10 }
+{
+    let mut buffer = Buffer::new();
+    push_bytes(line, buffer.format(n).as_bytes());
+}
+
+/// The line that refuses a case at a line for a cause, as `refused 3 A5`.
+#[tactic(auto, unfolding(crate::specs::Refusals::refusal_line))]
+pub fn refusal_line(line: u32, cause: CaseCause) -> RefusalLine
+    ensures { result.items ≡ refusal_line line cause }
+{
+    let mut written = RefusalLine::new();
+    push_bytes(&mut written, b"refused ");
+    push_number(&mut written, line);
+    written.push(b' ');
+    written.push(letter(cause));
+    push_number(&mut written, number(cause));
+    written.push(b'\n');
+    written
+}
+
+// The letter of the stage that refuses.
+fn letter(cause: CaseCause) -> u8
+    ensures { result ∷ [] ≡ letter cause }
+{
+    match cause {
+        CaseCause::BadByte | CaseCause::NumberTooLarge => b'L',
+        CaseCause::OfText(_) => b'A',
+        CaseCause::OfImage(_) => b'I',
+        CaseCause::Injection => b'X',
+    }
+}
+
+// The number of the cause in its stage.
+fn number(cause: CaseCause) -> u32
+    ensures { result ≡ number cause }
+{
+    match cause {
+        CaseCause::BadByte => 1,
+        CaseCause::NumberTooLarge => 2,
+        CaseCause::OfText(cause) => text_number(cause),
+        CaseCause::OfImage(cause) => u32::from(cause.number()),
+        CaseCause::Injection => 2,
+    }
+}
+
+// The number of a cause of the assembler, 1 to 14.
+fn text_number(cause: AsmCause) -> u32
+    ensures { result ≡ cause_number cause }
+{
+    match cause {
+        AsmCause::UnknownStatement => 1,
+        AsmCause::WrongForm => 2,
+        AsmCause::NoRegister => 3,
+        AsmCause::ConstantRange => 4,
+        AsmCause::DefinedTwice => 5,
+        AsmCause::Undefined => 6,
+        AsmCause::WrongKind => 7,
+        AsmCause::WrongSection => 8,
+        AsmCause::TargetRange => 9,
+        AsmCause::CodeFull => 10,
+        AsmCause::RamFull => 11,
+        AsmCause::LongName => 12,
+        AsmCause::UnknownSetting => 13,
+        AsmCause::TooMany => 14,
+    }
+}
