@@ -12,4 +12,4 @@ finished-served x k f s e = go (task_at k x).answered e (s.reads x)
   where
     go : (a : Option Finished) → a ≡ Some f → IsServedResult a → finished_with a x k ≡ record k { tasks = update_task k.tasks x cleared_task }
     go None e h = cc
-    go (Some g) e h = subst (λ s. record k { tasks = update_task k.tasks x cleared_task; objects = flags_consumed s g.answer.err (task_at k x) g.answer.value k.objects } ≡ record k { tasks = update_task k.tasks x cleared_task }) (sym h) refl
+    go (Some g) e h = subst (λ s. record k { tasks = update_task k.tasks x cleared_task; objects = flags_consumed s g.answer.err (task_at k x) g.answer.value k.objects } ≡ record k { tasks = update_task k.tasks x cleared_task }) (sym h.service) refl

@@ -136,6 +136,7 @@ impl Kernel {
         requires task { task.0 < 64 }
         requires waits { has_result (task_at self.old.state task.0).answered ≡ true }
         ensures result { (task_at self.old.state task.0).answered ≡ Some result }
+        ensures no_table { result.n_ids ≡ 0 }
         ensures kernel { self.new ≡ with_state self.old (finished task.0 self.old.state) }
         ensures valid { IsValid self.new.state }
     {
