@@ -1,8 +1,13 @@
 pub mod Rows
+pub mod CountLaws
+pub mod CalmLaws
+pub mod ApplicationLaws
 pub mod RunLaws
 pub mod StepLaws
 pub mod PickLaws
 pub mod StillLaws
+pub mod OutcomeLaws
+pub mod PrintLaws
 pub mod SoundLaws
 pub mod MachineFacts
 pub mod EndLaws

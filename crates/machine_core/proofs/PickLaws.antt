@@ -1,7 +1,7 @@
 -- The task that the scheduler picks.
-use Rattle.std.specs.Prelude.{if◌then◌else◌, ◌==◌, ◌&&◌, nat_lt, length, ◌≢◌}
+use Rattle.std.specs.Prelude.{◌==◌, ◌&&◌, nat_lt, length, ◌≢◌}
 use Rattle.std.proofs.lemmas.List.{get_or_past}
-use Rattle.std.proofs.Common.{◌≡◌, ◌<◌, ◌≤◌, ◌⊎◌, inl, inr, ℕ, zero, suc, ◌+◌, Bool, true, false, List, [], ◌∷◌, Option, Some, None, refl, sym, ap, ◌∙◌, subst, arith, eq-eqb, ltb-true, ltb-false}
+use Rattle.std.proofs.Common.{◌≡◌, ◌<◌, ◌≤◌, ◌⊎◌, inl, inr, ℕ, suc, Bool, true, false, List, [], ◌∷◌, refl, subst, arith, eq-eqb, ltb-true, ltb-false}
 use Rattle.kern_model.specs.State.{Kernel, Task, pick, first_of, list_at, count_of, task_at, no_task, prio_of, is_ready}
 use Rattle.kern_base.specs.declared.outcomes.Waiting.TheVariants.{Signal}
 use Rattle.kern_model.specs.Valid.{IsValid, one_if}

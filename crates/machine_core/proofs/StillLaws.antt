@@ -12,10 +12,10 @@ use Rattle.kern_base.specs.declared.outcomes.Finished.{Finished}
 use Rattle.kern_model.specs.State.{Kernel, Task, Content, Count, Messages, Bits, Held, Timed, list_at, task_at, object_at, with_content}
 use Rattle.kern_model.specs.Effect.{Effect, refused, done, fine, wakes, wakes_all, posted_result, chosen, tail, blocks_on, waits_for}
 use Rattle.kern_model.specs.Checks.{argument, call_error}
-use Rattle.kern_model.specs.Semaphores.{sem_counts_up, sem_post_to, sem_post, sem_pend}
+use Rattle.kern_model.specs.Semaphores.{sem_post_to, sem_post, sem_pend}
 use Rattle.kern_model.specs.Services.{effect, program_serves, after_checks, row_of}
 use Rattle.kern_model.specs.Finish.{finished, finished_with}
-use Rattle.machine_core.proofs.StepLaws.{choice}
+use Rattle.machine_core.proofs.CountLaws.{choice}
 
 -- the signals, the work of the timer task and the lock are the same
 pub record SameBehind (k j : Kernel) : Type 0 where

@@ -1,17 +1,17 @@
 -- What an answer changes in the kernel and the registers.
-use Rattle.std.specs.Prelude.{ℕ, Option, Some, None, slice_index_or, slice_set}
+use Rattle.std.specs.Prelude.{◌≡◌, ℕ, Option, Some, None, slice_index_or, slice_set}
 use Rattle.kern_base.specs.declared.services.Service.{Service}
 use Rattle.kern_base.specs.declared.outcomes.Answer.{Answer}
 use Rattle.kern_base.specs.declared.outcomes.Finished.{Finished}
 use Rattle.kern_base.specs.declared.outcomes.Outcome.{Outcome}
-use Rattle.kern_base.specs.declared.outcomes.Outcome.TheVariants.{Answered, Waits}
+use Rattle.kern_base.specs.declared.outcomes.Outcome.TheVariants.{Answered, Waits, Gone}
 use Rattle.kern_model.specs.State.{task_at}
 use Rattle.kern_model.specs.Finish.{finished}
 use Rattle.tcb_pool.specs.TaskView.{no_registers}
 use Rattle.kernel_calls.specs.KernelRecord.{KernelRecord, with_state}
 use Rattle.machine_core.specs.declared.events.What.{What}
-use Rattle.machine_core.specs.declared.events.What.TheVariants.{Quiet, Wait}
-use Rattle.machine_core.specs.Rules.{with_answer, returned, task_id}
+use Rattle.machine_core.specs.declared.events.What.TheVariants.{Quiet, Wait, Gone as GoneLine}
+use Rattle.machine_core.specs.Answers.{with_answer, returned, task_id, entries}
 
 -- the registers of x have the answer
 abbrev pub answered_kernel : KernelRecord → ℕ → Service → Answer → KernelRecord
@@ -30,7 +30,7 @@ finished_kernel k x = finished_by (task_at k.state x).answered k x
 -- what is told of a result
 abbrev pub line_of : Option Finished → ℕ → What
 line_of None x = Quiet
-line_of (Some f) x = returned x f.service f.answer
+line_of (Some f) x = returned x f.service f.answer (entries (Some f))
 
 -- what is told of a task that reads its result
 abbrev pub finished_line : KernelRecord → ℕ → What
@@ -43,6 +43,12 @@ ended_kernel k x service outcome = k
 
 -- what is told of the end
 abbrev pub ended_line : ℕ → Service → Outcome → What
-ended_line x service (Answered a taken) = returned x service a
+ended_line x service (Answered a taken) = returned x service a (entries taken)
 ended_line x service Waits = Wait (task_id x) service
+ended_line x service Gone = GoneLine (task_id x)
 ended_line x service outcome = Quiet
+
+-- no table comes with the outcome
+abbrev pub HasNoTable : Outcome → Type 0
+HasNoTable (Answered a taken) = taken ≡ None
+HasNoTable outcome = Unit {0}

@@ -1,12 +1,14 @@
 // What passes between a task's registers and the kernel: the request of a call, and its answer.
 
-ghost use Rattle.std.specs.Prelude.{◌≡◌, ◌<◌, ◌≤◌, true, slice_set, slice_index_or};
+ghost use Rattle.std.specs.Prelude.{◌≡◌, ◌<◌, ◌≤◌, ℕ, true, List, [], slice_set, slice_index_or};
 ghost use Rattle.kern_model.specs.State.{task_at};
 ghost use Rattle.kern_model.specs.Valid.{has_result};
 ghost use Rattle.kern_model.specs.Finish.{finished};
+ghost use Rattle.kern_model.specs.Services.{program_serves};
 ghost use Rattle.tcb_pool.specs.TaskView.{no_registers};
 ghost use Rattle.rv32_exec.specs.Registers.{read};
-ghost use Rattle.machine_core.specs.Rules.{request_of, with_answer, returned, called, size_of, size_or_zero};
+ghost use Rattle.machine_core.specs.Answers.{with_answer, with_table, returned, size_of, size_or_zero};
+ghost use Rattle.machine_core.specs.Acts.{request_of, called};
 ghost use Rattle.machine_core.specs.AnswerView.{answered_kernel, finished_kernel, finished_line};
 
 use crate::What;
@@ -20,7 +22,7 @@ const A7: u8 = 17;
 
 // The request of a call: the number of the service in a7, the arguments in a0 to a3.
 pub(crate) fn request_in(regs: &Regs) -> Request
-    ensures { result ≡ request_of regs.now }
+    ensures { (memory : List ℕ) → result ≡ request_of program_serves regs.now memory }
 {
     Request {
         service: Service::of(regs.get(A7)),
@@ -65,7 +67,7 @@ fn size_in(service: Service, answer: Answer) -> Option<u32>
 pub(crate) fn answer(kernel: &mut Kernel, task: TaskId, service: Service, answer: Answer) -> What
     requires { task.0 < 64 }
     ensures kernel { kernel.new ≡ answered_kernel kernel.old task.0 service answer }
-    ensures line { result ≡ returned task.0 service answer }
+    ensures line { result ≡ returned task.0 service answer [] }
 {
     let mut regs = kernel.tcb(task).regs;
     regs.set(A0, answer.err.number());
@@ -92,6 +94,7 @@ pub(crate) fn finish(kernel: &mut Kernel, task: TaskId) -> What
     requires waits { has_result (task_at kernel.old.state task.0).answered ≡ true }
     ensures kernel { kernel.new ≡ finished_kernel kernel.old task.0 }
     ensures line { result ≡ finished_line kernel.old task.0 }
+    ensures no_table { (memory : List ℕ) → with_table (task_at kernel.old.state task.0).answered memory ≡ memory }
 {
     let finished = kernel.finish(task);
     answer(kernel, task, finished.service, finished.answer)

@@ -1,6 +1,7 @@
 // What happened in one step of the machine.
 
-use kern_base::{OsErr, Service, TaskId};
+use inject_list::Seen;
+use kern_base::{ObjId, OsErr, Service, TaskId};
 use rv32_exec::TrapKind;
 
 /// One event, with the counts of raw steps and of task steps as they stood before it.
@@ -17,7 +18,19 @@ pub struct Event {
     pub marked: bool,
 }
 
-/// What an event was. Entries of an array past its count are 0, or None where they are options.
+/// How a frame of interrupt code left.
+#[derive(Clone, Copy, PartialEq, Eq)]
+pub enum How {
+    /// It returned.
+    Ret,
+    /// It had run as many instructions as the settings allow.
+    Limit,
+    /// It trapped at the instruction of this address.
+    Trap(TrapKind, u32),
+}
+
+/// What an event was. Entries of an array past its count are 0, or None where they are options. A count
+/// of arguments is at most 4, of entries of a table at most 8, of tasks of a list at most 63.
 #[derive(Clone, Copy, PartialEq, Eq)]
 pub enum What {
     /// Nothing that has a line of its own.
@@ -45,22 +58,84 @@ pub enum What {
         tab: [Option<(u32, u32)>; 8],
         n_tab: u8,
     },
-    /// A task waits in this call.
+    /// A task waits in this call, or has suspended itself with it.
     Wait {
         task: TaskId,
         service: Service,
     },
-    /// A store of so many bytes, by the task of this number.
+    /// A task deleted itself.
+    Gone {
+        task: TaskId,
+    },
+    /// A store of so many bytes, by the task of this number, or from 64 on by a frame of the vector
+    /// `who - 64`. The value is cut to the width.
     St {
         who: u8,
         addr: u32,
         width: u8,
         value: u32,
     },
-    /// A task trapped at the instruction of this address, and stopped for good.
+    /// A task or a timer's callback trapped at the instruction of this address.
     Trap {
         task: TaskId,
         kind: TrapKind,
         pc: u32,
+    },
+    /// The tick task has raised the tick counter to this.
+    Tick {
+        count: u32,
+    },
+    /// The timer task has raised the timer count to this.
+    Tmr {
+        count: u32,
+    },
+    /// A timer fired.
+    Fire {
+        obj: ObjId,
+    },
+    /// An interrupt entered: whether its moment was in raw steps, and whether the scheduler was locked.
+    Irq {
+        vector: u8,
+        level: u8,
+        by_step: bool,
+        locked: bool,
+    },
+    /// A frame posted.
+    Post {
+        vector: u8,
+        service: Service,
+        args: [u32; 4],
+        n_args: u8,
+        err: OsErr,
+        value: u32,
+    },
+    /// A frame called a service that is no post, which is refused.
+    ICall {
+        vector: u8,
+        service: Service,
+        err: OsErr,
+    },
+    /// A frame left.
+    Exit {
+        vector: u8,
+        how: How,
+    },
+    /// The handler has performed a queued post. `same`: with the literal insertion rule, it readied a task
+    /// of the priority that was saved with the post.
+    Take {
+        service: Service,
+        args: [u32; 4],
+        n_args: u8,
+        err: OsErr,
+        value: u32,
+        same: bool,
+    },
+    /// A look at a list: the tasks of its forward chain, and of its backward chain from its end.
+    Look {
+        seen: Seen,
+        forward: [u8; 64],
+        n_forward: u8,
+        back: [u8; 64],
+        n_back: u8,
     },
 }

@@ -6,5 +6,5 @@ mod answers;
 mod events;
 mod machine;
 
-pub use events::{Event, What};
+pub use events::{Event, How, What};
 pub use machine::Machine;

@@ -1,17 +1,23 @@
 // The machine and its events.
 
-ghost use Rattle.std.specs.Prelude.{◌≡◌, ◌<◌, ◌≤◌, ℕ, ◌+◌, ◌*◌, true, IfOk, IsSome, None};
+ghost use Rattle.std.specs.Prelude.{◌≡◌, ◌<◌, ◌≤◌, ℕ, ◌+◌, ◌*◌, true, [], IfOk, IsSome, None};
+ghost use Rattle.kern_base.specs.declared.kinds.Method.TheVariants.{Direct};
 ghost use Rattle.kern_model.specs.State.{task_at, is_ready};
+ghost use Rattle.kern_model.specs.Services.{program_serves};
+ghost use Rattle.inject_list.specs.Lists.{no_injections};
 ghost use Rattle.kernel_calls.specs.KernelRecord.{KernelRecord};
 ghost use Rattle.machine_core.specs.Machine.{start};
-ghost use Rattle.machine_core.specs.Rules.{next, done, acts, rule_in_hand, settled_task, switch_of, TaskRuns};
-ghost use Rattle.machine_core.specs.AnswerView.{ended_kernel, ended_line};
-ghost use Rattle.machine_core.specs.Run.{events_left, most_micro_steps, steps_taken};
+ghost use Rattle.machine_core.specs.Settling.{settled_task};
+ghost use Rattle.machine_core.specs.Acts.{acts};
+ghost use Rattle.machine_core.specs.Rules.{next, done, rule_in_hand, switch_of, TaskActs};
+ghost use Rattle.machine_core.specs.AnswerView.{ended_kernel, ended_line, HasNoTable};
+ghost use Rattle.machine_core.specs.Bound.{events_left, most_micro_steps, steps_taken};
+ghost use Rattle.machine_core.specs.Text.{IsPrintable};
 ghost use Rattle.machine_core.specs.Valid.{most_task_steps, IsSound};
 
 use crate::answers::{answer, call_line, finish, request_in};
 use crate::{Event, What};
-use app_image::Image;
+use app_image::{Config, Image};
 use kern_base::{NoMemory, Outcome, Service, TaskId};
 use kernel_calls::{Kernel, Progress, Work};
 use rv32_exec::{Ram, Stepped, step};
@@ -35,6 +41,7 @@ pub struct Machine {
     kernel: Kernel,
     ram: Ram,
     code: Vec<u32>,
+    config: Config,
     current: TaskId,
     in_hand: Option<InHand>,
     begun: bool,
@@ -57,7 +64,7 @@ impl Model for Machine {
 impl Machine {
     /// The machine at the start of a run of this application.
     pub fn load(alloc: Global, image: &Image) -> Result<Machine, NoMemory>
-        ensures start { IfOk result (λ m. m ≡ start image.now) }
+        ensures start { IfOk result (λ m. m ≡ start image.now no_injections) }
         ensures sound { IfOk result IsSound }
     {
         let kernel = Kernel::new(alloc, image)?;
@@ -73,6 +80,7 @@ impl Machine {
             kernel,
             ram,
             code,
+            config: image.config(),
             current,
             in_hand: None,
             begun: false,
@@ -84,8 +92,9 @@ impl Machine {
     /// The next event. It takes no memory.
     pub fn step(&mut self) -> Event
         requires { self.old.t < most_task_steps }
-        ensures event { result ≡ (next self.old).0 }
-        ensures machine { self.new ≡ (next self.old).1 }
+        ensures event { result ≡ (next program_serves Direct self.old).0 }
+        ensures printable { IsPrintable result.what }
+        ensures machine { self.new ≡ (next program_serves Direct self.old).1 }
 
         // Fewer events are left to any later number of task steps.
         ensures fewer { (n : ℕ) → self.old.t < n → events_left n self.new < events_left n self.old }
@@ -135,8 +144,8 @@ impl Machine {
     // task acts. It takes one raw step.
     fn go_on(&mut self) -> What
         requires open_yet { self.old.t < most_task_steps }
-        ensures line { result ≡ (done (rule_in_hand self.old.in_hand) self.old).what }
-        ensures machine { self.new ≡ record (done (rule_in_hand self.old.in_hand) self.old).machine { s = self.old.s + 1 } }
+        ensures line { result ≡ (done program_serves Direct (rule_in_hand self.old.in_hand self.old) self.old).what }
+        ensures machine { self.new ≡ record (done program_serves Direct (rule_in_hand self.old.in_hand self.old) self.old).machine { s = self.old.s + 1 } }
     {
         let what = if self.in_hand.is_some() {
             self.advance()
@@ -151,8 +160,8 @@ impl Machine {
     fn advance(&mut self) -> What
         requires some { IsSome self.old.in_hand }
         requires open_yet { self.old.t < most_task_steps }
-        ensures line { result ≡ (done (rule_in_hand self.old.in_hand) self.old).what }
-        ensures machine { self.new ≡ (done (rule_in_hand self.old.in_hand) self.old).machine }
+        ensures line { result ≡ (done program_serves Direct (rule_in_hand self.old.in_hand self.old) self.old).what }
+        ensures machine { self.new ≡ (done program_serves Direct (rule_in_hand self.old.in_hand self.old) self.old).machine }
     {
         let Some(mut hand) = self.in_hand.take() else {
             return What::Quiet;
@@ -177,8 +186,8 @@ impl Machine {
     fn act(&mut self) -> What
         requires none { self.old.in_hand ≡ None }
         requires open_yet { self.old.t < most_task_steps }
-        ensures line { result ≡ (done TaskRuns self.old).what }
-        ensures machine { self.new ≡ (done TaskRuns self.old).machine }
+        ensures line { result ≡ (done program_serves Direct TaskActs self.old).what }
+        ensures machine { self.new ≡ (done program_serves Direct TaskActs self.old).machine }
     {
         let task = self.current;
         if self.kernel.tcb(task).result.is_some() {
@@ -201,8 +210,8 @@ impl Machine {
         requires application { task.0 < 60 }
         requires ready { is_ready (task_at self.old.kernel task.0) ≡ true }
         requires open_yet { self.old.t < most_task_steps }
-        ensures line { result ≡ (acts task.0 None self.old).what }
-        ensures machine { self.new ≡ (acts task.0 None self.old).machine }
+        ensures line { result ≡ (acts program_serves task.0 None self.old).what }
+        ensures machine { self.new ≡ (acts program_serves task.0 None self.old).machine }
     {
         let mut regs = self.kernel.tcb(task).regs;
         match step(self.code.as_slice(), &mut regs, &mut self.ram) {
@@ -254,7 +263,7 @@ fn switch_of(before: TaskId, now: TaskId) -> Option<(TaskId, TaskId)>
 
 // Unless the scheduler is locked, the task that it picks becomes the current one.
 fn settle(kernel: &Kernel, current: TaskId) -> TaskId
-    ensures { result.0 ≡ settled_task kernel.now.state current.0 }
+    ensures { result.0 ≡ settled_task kernel.now.state [] current.0 }
 {
     if kernel.lock() == 0 {
         kernel.pick()
@@ -265,13 +274,15 @@ fn settle(kernel: &Kernel, current: TaskId) -> TaskId
 
 // The last micro-step of a call: its answer goes to the caller, or the caller waits.
 fn end(kernel: &mut Kernel, task: TaskId, service: Service, outcome: Outcome) -> What
-    requires { task.0 < 64 }
+    requires inside { task.0 < 64 }
+    requires plain { HasNoTable outcome }
     ensures kernel { kernel.new ≡ ended_kernel kernel.old task.0 service outcome }
     ensures line { result ≡ ended_line task.0 service outcome }
 {
     match outcome {
         Outcome::Answered(given, _) => answer(kernel, task, service, given),
         Outcome::Waits => What::Wait { task, service },
-        Outcome::Gone | Outcome::Quiet(_) => What::Quiet,
+        Outcome::Gone => What::Gone { task },
+        Outcome::Quiet(_) => What::Quiet,
     }
 }

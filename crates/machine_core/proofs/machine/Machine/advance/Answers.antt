@@ -1,8 +1,9 @@
-use Rattle.std.proofs.Common.{◌≡◌, ◌<◌, ◌≤◌, ℕ, Some, refl, sym, ap, ◌∙◌, arith}
+use Rattle.std.proofs.Common.{◌≡◌, ◌<◌, Some, arith}
 use Rattle.kernel_calls.specs.KernelRecord.{with_state}
 use Rattle.kernel_calls.specs.Works.{effect_of}
 use Rattle.machine_core.specs.AnswerView.{ended_kernel}
-use Rattle.machine_core.specs.MachineView.{machine_of}
+use Rattle.machine_core.specs.MachineView.{IsBegunHere}
+use Rattle.machine_core.proofs.OutcomeLaws.{plain-effect}
 use Rattle.machine_core.proofs.MachineFacts.{begun_in, more-kept, last-machine, last-kept}
 use Rattle.machine_core.proofs.machine.Machine.advance.Goals as goal
 
@@ -13,8 +14,8 @@ invariant_of-self-in-More c =
     let open_yet : c.self.inside.t < 1000000 = rw (← c.self.view_is) at c.requires.open_yet in
     let b = begun_in c.self.inside c.in-Some.hand c.self.invariant held in
     let other : c.in-Some.hand.work.left ≡ 1 → ⊥ = λ e. let d = c.advance.ensures.done e in cc in
-    let more : 1 < c.in-Some.hand.work.left = omega (arith, b.open_yet, other) in
-    let begun = rw (c.advance.ensures.kept more) at c.advance.ensures.begun more in
+    let more : 1 < c.in-Some.hand.work.left = omega (arith, b.begun.open_yet, other) in
+    let begun : IsBegunHere c.advance.new.work c.self.inside.kernel.state = record { begun = rw (c.advance.ensures.kept more) at c.advance.ensures.begun more; head = rw c.advance.ensures.counted b.head } in
     rw (c.advance.ensures.kept more) (more-kept c.self.inside c.in-Some.hand _ c.self.invariant held open_yet more c.advance.ensures.counted begun)
 
 -- it was the last one
@@ -24,19 +25,32 @@ invariant_of-self-in-Done c =
     let open_yet : c.self.inside.t < 1000000 = rw (← c.self.view_is) at c.requires.open_yet in
     let b = begun_in c.self.inside c.in-Some.hand c.self.invariant held in
     let other : 1 < c.in-Some.hand.work.left → ⊥ = λ p. let m = c.advance.ensures.more p in cc in
-    let one : c.in-Some.hand.work.left ≡ 1 = omega (arith, b.open_yet, other) in
+    let one : c.in-Some.hand.work.left ≡ 1 = omega (arith, b.begun.open_yet, other) in
     let d = c.advance.ensures.done one in
     let outcome : c.in-Done.outcome ≡ (effect_of c.in-Some.hand.work c.self.inside.kernel.state).outcome = cc in
     let ends : c.end-line.new.kernel ≡ ended_kernel (with_state c.self.inside.kernel (effect_of c.in-Some.hand.work c.self.inside.kernel.state).kernel) c.self.inside.current.0 c.in-Some.hand.service (effect_of c.in-Some.hand.work c.self.inside.kernel.state).outcome
     = rw (c.advance.ensures.kernel one, outcome) at c.end-line.ensures.kernel in
     rw c.take.ensures.after (last-kept c.self.inside c.in-Some.hand c.end-line.new.kernel c.settle-self-inside.result c.self.invariant held open_yet one ends c.settle-self-inside.ensures)
 
+-- no table comes with its outcome
+pub end-line-requires-clause-plain : goal.end-line-requires-clause-plain
+end-line-requires-clause-plain c =
+    let w = c.in-Some.hand.work in
+    let k = c.self.inside.kernel.state in
+    let held : c.self.inside.in_hand ≡ Some c.in-Some.hand = cc in
+    let b = begun_in c.self.inside c.in-Some.hand c.self.invariant held in
+    let other : 1 < w.left → ⊥ = λ p. let m = c.advance.ensures.more p in cc in
+    let one : w.left ≡ 1 = omega (arith, b.begun.open_yet, other) in
+    let d = c.advance.ensures.done one in
+    let outcome : c.in-Done.outcome ≡ (effect_of w k).outcome = cc in
+    rw outcome (plain-effect w.request w.caller w.compared w.head k)
+
 pub returns-in-Done-clause-machine : goal.returns-in-Done-clause-machine
 returns-in-Done-clause-machine c =
     let held : c.self.inside.in_hand ≡ Some c.in-Some.hand = cc in
     let b = begun_in c.self.inside c.in-Some.hand c.self.invariant held in
     let other : 1 < c.in-Some.hand.work.left → ⊥ = λ p. let m = c.advance.ensures.more p in cc in
-    let one : c.in-Some.hand.work.left ≡ 1 = omega (arith, b.open_yet, other) in
+    let one : c.in-Some.hand.work.left ≡ 1 = omega (arith, b.begun.open_yet, other) in
     let d = c.advance.ensures.done one in
     let outcome : c.in-Done.outcome ≡ (effect_of c.in-Some.hand.work c.self.inside.kernel.state).outcome = cc in
     let ends : c.end-line.new.kernel ≡ ended_kernel (with_state c.self.inside.kernel (effect_of c.in-Some.hand.work c.self.inside.kernel.state).kernel) c.self.inside.current.0 c.in-Some.hand.service (effect_of c.in-Some.hand.work c.self.inside.kernel.state).outcome

@@ -1,4 +1,4 @@
-use Rattle.std.proofs.Common.{rules, ◌≡◌, ◌<◌, ◌≤◌, ℕ, None, Some, refl, sym, ap, ◌∙◌, arith}
+use Rattle.std.proofs.Common.{rules, ◌≡◌, ◌<◌, None, refl}
 use Rattle.machine_core.specs.MachineView.{machine_of}
 use Rattle.machine_core.proofs.MachineFacts.{instruct-kept, none_begun}
 use Rattle.machine_core.proofs.machine.Machine.instruct.Goals as goal
@@ -10,7 +10,7 @@ invariant_of-self-in-Call-2 c =
     let none : (machine_of c.self.inside).in_hand ≡ None = rw (← c.self.view_is) at c.requires.none in
     let reads = rw (← c.self.view_is) at c.requires.reads in
     let open_yet : c.self.inside.t < 1000000 = rw (← c.self.view_is) at c.requires.open_yet in
-    instruct-kept c.self.inside _ c.args.task.0 c.self.invariant current none reads open_yet (search rules) c.begin.ensures.begun
+    instruct-kept c.self.inside _ c.args.task.0 c.self.invariant current none reads open_yet (search rules) (record { begun = c.begin.ensures.begun; head = rw c.begin.ensures.work refl })
 
 -- the task has stopped
 pub invariant_of-self-in-Trap : goal.invariant_of-self-in-Trap
