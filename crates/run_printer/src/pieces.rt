@@ -1,6 +1,6 @@
 // A line while it is made: words, each behind a blank.
 
-ghost use Rattle.std.specs.Prelude.{◌≡◌, ◌++◌, ◌+◌, ◌≤◌, [], ◌∷◌, length, decimal};
+ghost use Rattle.std.specs.Prelude.{◌≡◌, ◌++◌, ◌+◌, ◌≤◌, [], ◌∷◌, length, map, take, decimal};
 ghost use Rattle.arrayvec.specs.ArrayVec.{array_vec_len};
 ghost use Rattle.machine_core.specs.Text.{spaced};
 
@@ -57,4 +57,27 @@ pub fn push_count(line: &mut Line, count: u64)
 {
     let mut buffer = Buffer::new();
     push_bytes(line, buffer.format(count).as_bytes());
+}
+
+/// Appends these numbers.
+pub fn push_numbers(line: &mut Line, numbers: &[u32])
+    requires few { length numbers.now ≤ 4 }
+    requires room { array_vec_len line.old ≤ 200 }
+    ensures items { line.new.items ≡ line.old.items ++ spaced (map decimal numbers.now) }
+    ensures len { array_vec_len line.new ≤ array_vec_len line.old + 44 }
+{
+    for number in numbers {
+        push_number(line, *number);
+    }
+}
+
+/// The first elements of an array, or all where it has fewer.
+pub fn first<T>(elements: &[T], count: u8) -> &[T]
+    ensures elements { result.now ≡ take count elements.now }
+    ensures fewer { length result.now ≤ length elements.now }
+{
+    match elements.get(..usize::from(count)) {
+        Some(front) => front,
+        None => elements,
+    }
 }

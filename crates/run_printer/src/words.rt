@@ -1,12 +1,14 @@
-// Words that stand for a value: names of tasks, services and traps.
+// Words that stand for a value: names of tasks, objects, services, errors and traps.
 
 ghost use Rattle.std.specs.Prelude.{◌≡◌, ◌++◌, ◌+◌, ◌≤◌, ◌∷◌, length};
 ghost use Rattle.arrayvec.specs.ArrayVec.{array_vec_len};
 ghost use Rattle.kern_base.specs.Errors.{error_name};
-ghost use Rattle.machine_core.specs.Text.{internal_name, name_of, service_word, trap_word};
+ghost use Rattle.machine_core.specs.Words.{internal_name, name_of, object_name, seen_word, service_word, trap_word, who_words};
+ghost use Rattle.machine_core.specs.Text.{spaced};
 
 use crate::pieces::{Line, push_number, push_word};
 use app_image::Image;
+use inject_list::Seen;
 use kern_base::{OsErr, Service};
 use rv32_exec::TrapKind;
 
@@ -40,6 +42,52 @@ pub fn push_name(line: &mut Line, image: &Image, task: u8)
     ensures len { array_vec_len line.new ≤ array_vec_len line.old + 17 }
 {
     push_word(line, task_name(image, task));
+}
+
+// The name of an object.
+fn object_name<'a>(image: &'a Image, object: u8) -> &'a [u8]
+    ensures name { result.now ≡ object_name image.now object }
+    ensures short { length result.now ≤ 16 }
+{
+    match image.objects().get(usize::from(object)) {
+        Some(declared) => declared.name.bytes(),
+        None => b"",
+    }
+}
+
+/// Appends a blank and the name of an object.
+pub fn push_object(line: &mut Line, image: &Image, object: u8)
+    requires room { array_vec_len line.old + 17 ≤ 512 }
+    ensures items { line.new.items ≡ line.old.items ++ 32 ∷ object_name image.now object }
+    ensures len { array_vec_len line.new ≤ array_vec_len line.old + 17 }
+{
+    push_word(line, object_name(image, object));
+}
+
+/// Appends who stored: the name of a task, or the vector of a frame.
+pub fn push_who(line: &mut Line, image: &Image, who: u8)
+    requires room { array_vec_len line.old + 17 ≤ 512 }
+    ensures items { line.new.items ≡ line.old.items ++ spaced (who_words image.now who) }
+    ensures len { array_vec_len line.new ≤ array_vec_len line.old + 17 }
+{
+    if who < 64 {
+        push_name(line, image, who);
+    } else {
+        push_word(line, b"isr");
+        push_number(line, u32::from(who - 64));
+    }
+}
+
+/// Appends a blank and the list of a look: its object's name, or its priority.
+pub fn push_seen(line: &mut Line, image: &Image, seen: Seen)
+    requires room { array_vec_len line.old + 17 ≤ 512 }
+    ensures items { line.new.items ≡ line.old.items ++ 32 ∷ seen_word image.now seen }
+    ensures len { array_vec_len line.new ≤ array_vec_len line.old + 17 }
+{
+    match seen {
+        Seen::Obj(object) => push_object(line, image, object.0),
+        Seen::Ready(prio) => push_number(line, u32::from(prio.0)),
+    }
 }
 
 /// Appends a blank and a service: its name, or the number that no service has.

@@ -1,7 +1,7 @@
 use Rattle.std.proofs.Common.{◌≡◌, ◌++◌, ◌+◌, ◌*◌, ◌≤◌, length, map, drop, decimal}
 use Rattle.arrayvec.specs.ArrayVec.{array_vec_len}
 use Rattle.machine_core.specs.Text.{spaced}
-use Rattle.run_printer.proofs.lines.push_numbers.Given as goal
+use Rattle.run_printer.proofs.pieces.push_numbers.Given as goal
 
 -- what is appended, and what is left, are the words of all
 abbrev pub invariant-loop-number : goal.invariant-loop-number
