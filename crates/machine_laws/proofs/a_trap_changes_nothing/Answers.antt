@@ -1,0 +1,6 @@
+-- An instruction that traps changes nothing.
+use Rattle.machine_laws.proofs.TrapLaws.{trap-exec}
+use Rattle.machine_laws.proofs.a_trap_changes_nothing.Goals as goal
+
+pub returns : goal.returns
+returns c = trap-exec
