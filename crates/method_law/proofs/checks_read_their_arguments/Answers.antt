@@ -1,0 +1,5 @@
+use Rattle.method_law.proofs.ArgumentLaws.{checked-same}
+use Rattle.method_law.proofs.checks_read_their_arguments.Goals as goal
+
+pub returns : goal.returns
+returns c = λ s a b table own. checked-same a b table own s

@@ -1,0 +1,5 @@
+use Rattle.method_law.proofs.EventsGo.{events-go}
+use Rattle.method_law.proofs.events_go_together.Goals as goal
+
+pub returns : goal.returns
+returns c = events-go

@@ -1,0 +1,6 @@
+pub mod Law
+pub mod Relation
+pub mod Kinds
+pub mod Alike
+pub mod Modes
+pub mod Going
