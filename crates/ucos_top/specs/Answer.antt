@@ -6,8 +6,11 @@ use Rattle.ucos_top.specs.declared.Status.{Status}
 use Rattle.ucos_top.specs.declared.Status.TheVariants as status
 use Rattle.ucos_top.specs.declared.words.Command.{Command}
 use Rattle.ucos_top.specs.declared.words.Command.TheVariants.{Run, Listing, Binary}
+use Rattle.kern_base.specs.declared.kinds.Method.TheVariants.{Direct}
+use Rattle.kern_model.specs.Services.{program_serves}
 use Rattle.app_image.specs.Image.{ImageRecord}
 use Rattle.app_image.specs.Layout.{layout}
+use Rattle.inject_list.specs.Lists.{no_injections}
 use Rattle.machine_core.specs.Run.{run_text}
 use Rattle.ucos_top.specs.Case.{Case, Accepts, Refuses, case_of}
 use Rattle.ucos_top.specs.Listing.{listing}
@@ -20,7 +23,7 @@ pub record Answer : Type 0 where
 
 -- the printed run of a case to so many task steps
 unfoldable pub printed : ImageRecord → ℕ → List ℕ
-printed image count = run_text image count
+printed image count = run_text program_serves Direct image no_injections count
 
 -- what a command writes of an image
 abbrev pub image_text : Command → ImageRecord → List ℕ

@@ -3,8 +3,9 @@
 ghost use Rattle.std.specs.Prelude.{◌≡◌, ◌≤◌};
 ghost use Rattle.outside.specs.Causes.{HasCause};
 ghost use Rattle.outside.specs.Written.{WritesPiece};
+ghost use Rattle.inject_list.specs.Lists.{no_injections};
 ghost use Rattle.machine_core.specs.Machine.{start};
-ghost use Rattle.machine_core.specs.Text.{event_text};
+ghost use Rattle.machine_core.specs.Text.{IsPrintable, event_text};
 ghost use Rattle.ucos_top.specs.Answer.{printed};
 
 use crate::COUNT_LIMIT;
@@ -16,6 +17,7 @@ use run_printer::{end_of_run, line_of};
 
 // Writes what an event prints, in one write, where it prints something.
 fn write_event<K: Sink>(event: &Event, image: &Image, sink: &mut K) -> Result<(), Failed>
+    requires room { IsPrintable event.now.what }
     ensures bytes { WritesPiece (K.held sink.old) (K.held sink.new) result (event_text image.now event.now) }
     ensures cause { HasCause (K.faults sink.old) (K.faults sink.new) result }
 {
@@ -34,7 +36,7 @@ pub fn write_run<K: Sink>(
     count: u32,
     sink: &mut K,
 ) -> Result<(), Failed>
-    requires start { machine ≡ start image.now }
+    requires start { machine ≡ start image.now no_injections }
     requires count { count ≤ COUNT_LIMIT }
     ensures bytes { WritesPiece (K.held sink.old) (K.held sink.new) result (printed image.now count) }
     ensures cause { HasCause (K.faults sink.old) (K.faults sink.new) result }

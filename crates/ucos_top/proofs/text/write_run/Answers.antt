@@ -2,17 +2,21 @@ use Rattle.std.proofs.Common.{◌≡◌, ◌++◌, ◌<◌, [], arith}
 use Rattle.std.proofs.KnownBytes.{Appends-trans, Appends-nil}
 use Rattle.std.proofs.lemmas.Result.{err_from_is_err_and}
 use Rattle.outside.proofs.Known.{AppendsPrefix-after, WritesPiece-after}
+use Rattle.kern_base.specs.declared.kinds.Method.TheVariants.{Direct}
+use Rattle.kern_model.specs.Services.{program_serves}
+use Rattle.inject_list.specs.Lists.{no_injections}
 use Rattle.machine_core.specs.Rules.{next}
-use Rattle.machine_core.specs.Run.{events_left, run_text}
+use Rattle.machine_core.specs.Bound.{events_left}
+use Rattle.machine_core.specs.Run.{run_text}
 use Rattle.machine_core.specs.Text.{event_text, end_line}
-use Rattle.machine_core.proofs.StepLaws.{t-next}
+use Rattle.machine_core.proofs.CountLaws.{t-next}
 use Rattle.machine_core.proofs.RunLaws.{printed_nothing, printed_more, printed_all}
 use Rattle.ucos_top.specs.Answer.{printed}
 use Rattle.ucos_top.proofs.text.write_run.Goals as goal
 
 pub running-init : goal.running-init
 running-init g c = record {
-  written = ([], Appends-nil (g.K.Sink.held c.args.sink.now), rw c.requires.start (printed_nothing c.args.image.now c.args.count));
+  written = ([], Appends-nil (g.K.Sink.held c.args.sink.now), rw c.requires.start (printed_nothing program_serves Direct c.args.image.now no_injections c.args.count));
   within = rw c.requires.start (omega arith);
   bound = c.requires.count;
   later = omega arith;
@@ -24,17 +28,17 @@ running-preserved g c =
     let (front, written, printed) = c.running.invariant.written in
     let state = c.running.machine in
     let open_yet : state.t < c.args.count = omega (arith, c.running-test.true, c.task_steps.ensures) in
-    let falls : events_left c.args.count (next state).1 < events_left c.args.count state = rw c.step-event.ensures.machine at (c.step-event.ensures.fewer c.args.count open_yet) in
+    let falls : events_left c.args.count (next program_serves Direct state).1 < events_left c.args.count state = rw c.step-event.ensures.machine at (c.step-event.ensures.fewer c.args.count open_yet) in
     let some : 0 < events_left c.args.count state = omega (arith, falls) in
-    let next_one = printed_more c.args.image.now c.args.count front state printed open_yet some in
+    let next_one = printed_more program_serves Direct c.args.image.now no_injections c.args.count front state printed open_yet some in
     let said = rw c.step-event.ensures.event at c.in_ok-write_event.ensures.bytes in
     record {
       written = (
-        front ++ event_text c.args.image.now (next state).0,
+        front ++ event_text c.args.image.now (next program_serves Direct state).0,
         Appends-trans _ _ _ front _ written said,
         rw c.step-event.ensures.machine (next_one.printed falls),
       );
-      within = rw c.step-event.ensures.machine (omega (arith, t-next state, open_yet));
+      within = rw c.step-event.ensures.machine (omega (arith, t-next program_serves Direct state, open_yet));
       bound = c.running.invariant.bound;
       later = omega (arith, c.running.invariant.later, c.in_ok-write_event.ensures.cause.later);
     }
@@ -50,12 +54,12 @@ returns-in_err-write_event-clause-bytes g c =
     let (front, written, printed) = c.running.invariant.written in
     let state = c.running.machine in
     let open_yet : state.t < c.args.count = omega (arith, c.running-test.true, c.task_steps.ensures) in
-    let falls : events_left c.args.count (next state).1 < events_left c.args.count state = rw c.step-event.ensures.machine at (c.step-event.ensures.fewer c.args.count open_yet) in
+    let falls : events_left c.args.count (next program_serves Direct state).1 < events_left c.args.count state = rw c.step-event.ensures.machine at (c.step-event.ensures.fewer c.args.count open_yet) in
     let some : 0 < events_left c.args.count state = omega (arith, falls) in
-    let next_one = printed_more c.args.image.now c.args.count front state printed open_yet some in
+    let next_one = printed_more program_serves Direct c.args.image.now no_injections c.args.count front state printed open_yet some in
     let said = rw c.step-event.ensures.event at c.in_err-write_event.ensures.bytes in
     rw p.1 (AppendsPrefix-after (g.K.Sink.held c.args.sink.now) (g.K.Sink.held c.running.sink) (g.K.Sink.held c.write_event.new.sink)
-    front (event_text c.args.image.now (next state).0) next_one.rest (run_text c.args.image.now c.args.count) written said next_one.follows)
+    front (event_text c.args.image.now (next program_serves Direct state).0) next_one.rest (run_text program_serves Direct c.args.image.now no_injections c.args.count) written said next_one.follows)
 
 -- the last line is written, or a prefix of it
 pub returns-clause-bytes : goal.returns-clause-bytes
@@ -66,4 +70,4 @@ returns-clause-bytes g c =
     let at_end : state.t ≡ c.args.count = omega (arith, c.running-test.false, c.task_steps.ensures, c.running.invariant.within) in
     let last : c.as_slice.result.now ≡ end_line state.s state.t = cc in
     let said = rw last at c.write.ensures.bytes in
-    WritesPiece-after c.write.result _ _ _ front _ _ written said (printed_all c.args.image.now c.args.count front state printed at_end)
+    WritesPiece-after c.write.result _ _ _ front _ _ written said (printed_all program_serves Direct c.args.image.now no_injections c.args.count front state printed at_end)
