@@ -21,7 +21,8 @@ use Rattle.machine_core.specs.Acts.{acts}
 use Rattle.machine_core.specs.Rules.{Rule, Begins, Looks, Enters, FrameLimit, FrameRuns, MicroStep, TakeBegins, TaskActs, rule, raw, done, next}
 use Rattle.machine_core.specs.Run.{Run, run_on, run}
 use Rattle.machine_laws.specs.RuleTable.{Applies}
-use Rattle.machine_laws.specs.Valid.{IsBegun, HasWords}
+use Rattle.app_image.specs.Layout.{HasWords}
+use Rattle.machine_laws.specs.Valid.{IsBegun}
 use Rattle.machine_laws.specs.StepBound.{rules_on, rules_of, is_take, is_instruction, is_entry, IsBounded}
 use Rattle.machine_laws.proofs.RuleFacts.{applies}
 use Rattle.machine_laws.proofs.DueLaws.{length-taken_at, due-is}

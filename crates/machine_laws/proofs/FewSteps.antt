@@ -12,7 +12,7 @@ use Rattle.machine_core.specs.Machine.{Machine, start}
 use Rattle.machine_core.specs.Bound.{events_left, interrupt_events}
 use Rattle.machine_core.specs.Rules.{Rule, Begins, Looks, Enters, FrameLimit, FrameRuns, MicroStep, TakeBegins, TaskActs, rule, raw, next}
 use Rattle.machine_core.specs.Run.{Run, run_on, run}
-use Rattle.machine_laws.specs.Valid.{HasWords}
+use Rattle.app_image.specs.Layout.{HasWords}
 use Rattle.machine_laws.proofs.RestLaws.{V}
 use Rattle.machine_laws.proofs.FallLaws.{events_left-next}
 use Rattle.machine_laws.proofs.RunEnds.{OnItsWay, on_its_way-next, on_its_way-start, run_on-more, run_on-end}

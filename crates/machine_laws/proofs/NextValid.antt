@@ -26,7 +26,8 @@ use Rattle.deferred_queue.specs.Queue.{Queued}
 use Rattle.isr_nesting.specs.Frames.{Interrupt, interrupt_of}
 use Rattle.machine_core.specs.Machine.{Machine, start}
 use Rattle.machine_core.specs.Rules.{Rule, Begins, Looks, Enters, FrameLimit, FrameRuns, MicroStep, TakeBegins, TaskActs, rule, done, next}
-use Rattle.machine_laws.specs.Valid.{Fits, HasWords}
+use Rattle.app_image.specs.Layout.{HasWords, HasWordFields}
+use Rattle.machine_laws.specs.Valid.{Fits}
 use Rattle.machine_laws.specs.RuleTable.{Applies}
 use Rattle.machine_laws.proofs.RuleFacts.{applies}
 use Rattle.machine_laws.proofs.PickLaws.{ready-pick}
@@ -69,9 +70,9 @@ content-valid Mutex f h = omega arith
 content-valid OneShot f h = (word-at f 0 h, word-at f 1 h)
 content-valid Periodic f h = (word-at f 0 h, word-at f 1 h)
 
-contents-valid : (ds : List ObjDef) → All (λ o. All (λ n. n < 2 ^ 32) o.f) ds → All (λ b. IsContent b.content) (map object_of ds)
+contents-valid : (ds : List ObjDef) → All HasWordFields ds → All (λ b. IsContent b.content) (map object_of ds)
 contents-valid ds h =
-    All-map (λ (b : Object). IsContent b.content) object_of ds (All-weaker (λ (o : ObjDef). All (λ n. n < 2 ^ 32) o.f) (λ o. IsContent (content_of o.kind o.f)) (λ o w. content-valid o.kind o.f w) ds h)
+    All-map (λ (b : Object). IsContent b.content) object_of ds (All-weaker HasWordFields (λ o. IsContent (content_of o.kind o.f)) (λ o w. content-valid o.kind o.f w.words) ds h)
 
 level-interrupt_of : (words : ℕ) (vs : List VectorDef) (i : Injection) → All (IsValidVector words) vs → (interrupt_of vs i).level ≤ 7
 level-interrupt_of words [] i h = omega arith
@@ -96,7 +97,7 @@ fits-start Deferred = tt
 
 pub valid-start_machine : (served : Service → Bool) (method : Method) (image : ImageRecord) (list : ListRecord) → IsValidImage image → HasWords image → IsValidList image list → V served method (start image list)
 valid-start_machine served method image list h words l =
-    let k : IsValid (start_state image) = valid-start image h (contents-each (map object_of image.objects) (contents-valid image.objects words)) in
+    let k : IsValid (start_state image) = valid-start image h (contents-each (map object_of image.objects) (contents-valid image.objects words.fields)) in
     record {
       kernel = k;
       registers = registers-start image h.tasks_room;

@@ -17,7 +17,8 @@ use Rattle.machine_core.specs.Acts.{acts}
 use Rattle.machine_core.specs.Rules.{Rule, Begins, Looks, Enters, FrameLimit, FrameRuns, MicroStep, TakeBegins, TaskActs, rule, done, next}
 use Rattle.machine_core.specs.Run.{Run, run_on, run}
 use Rattle.machine_laws.specs.RuleTable.{Applies}
-use Rattle.machine_laws.specs.Valid.{AreStacked, HasWords}
+use Rattle.app_image.specs.Layout.{HasWords}
+use Rattle.machine_laws.specs.Valid.{AreStacked}
 use Rattle.machine_laws.specs.Ending.{HasEnded}
 use Rattle.machine_laws.proofs.RuleFacts.{applies}
 use Rattle.machine_laws.proofs.StepCases.{after-frame, EndsIn, after-advances, after-acts}

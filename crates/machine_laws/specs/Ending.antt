@@ -10,7 +10,8 @@ use Rattle.machine_core.specs.Bound.{events_left}
 use Rattle.machine_core.specs.Rules.{rule, next}
 use Rattle.machine_core.specs.Run.{run}
 use Rattle.machine_laws.specs.Isolation.{IsInterruptCode}
-use Rattle.machine_laws.specs.Valid.{IsValidMachine, HasWords}
+use Rattle.app_image.specs.Layout.{HasWords}
+use Rattle.machine_laws.specs.Valid.{IsValidMachine}
 
 -- Until there are n task steps every event leaves fewer events to come.
 abbrev pub EventsLeftFall : Type 0

@@ -10,7 +10,8 @@ use Rattle.machine_core.specs.Machine.{Machine, start}
 use Rattle.machine_core.specs.Bound.{events_left, whole_step_events}
 use Rattle.machine_core.specs.Rules.{Rule, Enters, FrameRuns, TakeBegins, rule, next}
 use Rattle.machine_core.specs.Run.{run}
-use Rattle.machine_laws.specs.Valid.{IsValidMachine, HasWords}
+use Rattle.app_image.specs.Layout.{HasWords}
+use Rattle.machine_laws.specs.Valid.{IsValidMachine}
 
 module _ (served : Service → Bool) (method : Method) where
   -- the rules of the events from a machine on until there are n task steps, but of no more than so many

@@ -1,5 +1,5 @@
 -- What the machine keeps true of itself from event to event.
-use Rattle.std.specs.Prelude.{◌≡◌, ◌⊎◌, ◌<◌, ◌≤◌, ◌^◌, ℕ, Bool, true, false, List, [], ◌∷◌, length, All, Option, Some, None}
+use Rattle.std.specs.Prelude.{◌≡◌, ◌⊎◌, ◌<◌, ◌≤◌, ℕ, Bool, true, false, List, [], ◌∷◌, length, All, Option, Some, None}
 use Rattle.kern_base.specs.declared.kinds.Method.{Method}
 use Rattle.kern_base.specs.declared.kinds.Method.TheVariants.{Direct, Deferred}
 use Rattle.kern_base.specs.declared.services.Service.{Service}
@@ -8,6 +8,7 @@ use Rattle.kern_model.specs.State.{Kernel, task_at, is_ready, pick}
 use Rattle.kern_model.specs.Services.{cost}
 use Rattle.kern_model.specs.Valid.{IsValid, MayCall}
 use Rattle.app_image.specs.Image.{ImageRecord, IsValidImage}
+use Rattle.app_image.specs.Layout.{HasWords}
 use Rattle.app_image.specs.declared.settings.Config.{Config}
 use Rattle.inject_list.specs.Lists.{ListRecord, IsValidList}
 use Rattle.deferred_queue.specs.Queue.{Queued, front}
@@ -99,10 +100,6 @@ pub record IsValidMachine (served : Service → Bool) (method : Method) (m : Mac
 -- Every event keeps the machine valid.
 abbrev pub NextKeepsValid : Type 0
 NextKeepsValid = (served : Service → Bool) (method : Method) (m : Machine) → IsValidMachine served method m → IsValidMachine served method (next served method m).1
-
--- the numbers of an image's objects are words
-abbrev pub HasWords : ImageRecord → Type 0
-HasWords image = All (λ o. All (λ n. n < 2 ^ 32) o.f) image.objects
 
 -- The start of a valid image with a valid list is valid.
 abbrev pub StartIsValid : Type 0
