@@ -43,7 +43,7 @@ acts-rule false = refl
 
 module _ (served : Service → Bool) (image : ImageRecord) (n : ℕ) (d : Machine) (s : ℕ) (looks : List Look) (behind : s ≤ d.s) where
   -- the first event
-  goes-begins : (hand : Option WholeStep) → HasNoTake hand → GoTogether served image n (calm_machine false hand d) (at_step s looks (calm_machine false hand d))
+  pub goes-begins : (hand : Option WholeStep) → HasNoTake hand → GoTogether served image n (calm_machine false hand d) (at_step s looks (calm_machine false hand d))
   goes-begins hand none =
       let x = calm_machine true hand d in
       let e = after served Deferred Begins (calm_machine false hand d) in

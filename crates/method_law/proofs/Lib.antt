@@ -16,3 +16,12 @@ pub mod FrameEvents
 pub mod FrameGoes
 pub mod TakesGoes
 pub mod EventsGo
+pub mod LookLaws
+pub mod RunsAgree
+pub mod RunsGo
+pub mod PremiseLaws
+pub mod WakeSame
+pub mod PostSame
+pub mod TickSame
+pub mod TakeSame
+pub mod Agreement

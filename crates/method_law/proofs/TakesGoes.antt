@@ -25,7 +25,8 @@ use Rattle.machine_core.specs.Text.{event_history, history_line, history_words}
 use Rattle.machine_core.specs.Words.{switch_words}
 use Rattle.method_law.specs.Relation.{performed, all_performed}
 use Rattle.method_law.specs.Modes.{Related, calm, waits, takes, at_step, takes_machine, settled_machine, IsOpen, ArePosts}
-use Rattle.method_law.specs.Going.{BreaksNone, GoesAlone, TakesAsAtOnce, owed}
+use Rattle.method_law.specs.Going.{BreaksNone, GoesAlone, owed}
+use Rattle.method_law.specs.Takes.{TakesAsAtOnce}
 use Rattle.method_law.proofs.DueModes.{NoneBySteps, busy-none}
 use Rattle.method_law.proofs.GoLaws.{after, AloneBy, alone-by, no-switch}
 use Rattle.method_law.proofs.Performing.{stays-all}

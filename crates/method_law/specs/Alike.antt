@@ -3,10 +3,6 @@ use Rattle.std.specs.Prelude.{◌≡◌, ℕ, Bool, true, false, List, length, �
 use Rattle.std.specs.List.{list_any}
 use Rattle.kern_base.specs.declared.services.Service.{Service}
 use Rattle.kern_base.specs.Services.{service_of}
-use Rattle.kern_base.specs.Checks.{is_post, static_error}
-use Rattle.kern_base.specs.Tables.{KindTable}
-use Rattle.kern_model.specs.State.{Kernel}
-use Rattle.kern_model.specs.Services.{posted}
 use Rattle.rv32_exec.specs.Registers.{Registers, read}
 use Rattle.rv32_exec.specs.Exec.{Execution, exec}
 use Rattle.rv32_exec.specs.declared.Stepped.{Stepped}
@@ -59,16 +55,3 @@ InstructionsRunAlike =
     (served : Service → Bool) (code memory marks : List ℕ) (a b : Registers) → AgreeBut marks a b
     → is_marked marks (reads_of served a (next_instruction code a)) ≡ false
     → RunsAlike served (marks_after (next_instruction code a) marks) (exec code a memory) (exec code b memory)
-
--- A post looks at the arguments of its service alone: its static checks, and what it does.
-abbrev pub PostsReadTheirArguments : Type 0
-PostsReadTheirArguments =
-    (served : Service → Bool) (s : Service) (a b : Registers) (c h : ℕ) (k : Kernel) → is_post s ≡ true
-    → arguments s (argument_words a) ≡ arguments s (argument_words b)
-    → posted served s (argument_words a) c h k ≡ posted served s (argument_words b) c h k
-
-abbrev pub ChecksReadTheirArguments : Type 0
-ChecksReadTheirArguments =
-    (s : Service) (a b : Registers) (table : KindTable) (own : Bool) → is_post s ≡ true
-    → arguments s (argument_words a) ≡ arguments s (argument_words b)
-    → static_error s (argument_words a) table own ≡ static_error s (argument_words b) table own

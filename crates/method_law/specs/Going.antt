@@ -1,15 +1,11 @@
 -- How the events of both runs go together.
-use Rattle.std.specs.Prelude.{◌≡◌, ℕ, Bool, false, List, ◌++◌, Some, None, ◌⊎◌, ◌==◌}
+use Rattle.std.specs.Prelude.{◌≡◌, ℕ, Bool, false, List, ◌++◌, None, ◌⊎◌, ◌==◌}
 use Rattle.kern_base.specs.declared.kinds.Method.TheVariants.{Direct, Deferred}
 use Rattle.kern_base.specs.declared.services.Service.{Service}
+use Rattle.kern_model.specs.Valid.{IsValid}
 use Rattle.app_image.specs.Image.{ImageRecord}
 use Rattle.machine_core.specs.declared.events.Event.{Event}
-use Rattle.app_image.specs.declared.settings.Config.{Config}
-use Rattle.kern_model.specs.State.{Kernel}
-use Rattle.deferred_queue.specs.Queue.{Queued, front}
-use Rattle.machine_core.specs.Machine.{Machine, TakeOf, effect_of}
-use Rattle.machine_core.specs.Steps.{readies_same}
-use Rattle.method_law.specs.Relation.{performed}
+use Rattle.machine_core.specs.Machine.{Machine}
 use Rattle.machine_core.specs.Rules.{next, switch_of}
 use Rattle.machine_core.specs.Looks.{look_at}
 use Rattle.machine_core.specs.Premises.{enters_by_step, enters_locked, loses_post, readies_interrupted}
@@ -47,17 +43,9 @@ GoTogether served image n d m =
 abbrev pub Goes : (Service → Bool) → ImageRecord → ℕ → Machine → Machine → Type 0
 Goes served image n d m = GoesAlone served image n d m ⊎ GoTogether served image n d m
 
--- A take that readies no task of the priority that was saved with its post, where the literal insertion rule holds, does what
--- the post would have done at once.
-abbrev pub TakesAsAtOnce : (Service → Bool) → Config → Queued → Kernel → Type 0
-TakesAsAtOnce served config q k =
-    let taken = (effect_of served config (TakeOf q) k).kernel in
-    readies_same config q.saved k taken ≡ false → taken ≡ performed served q k
-
 -- Where no look is due, an event of the deferred run that breaks no premise goes with one of the direct run or alone.
 abbrev pub EventsGo : Type 0
 EventsGo =
     (served : Service → Bool) (image : ImageRecord) (n : ℕ) (d m : Machine) → Related served n d m → (d.t == n) ≡ false
     → look_at d.s d.looks ≡ None → look_at m.s m.looks ≡ None → BreaksNone (next served Deferred d).0
-    → ((q : Queued) → front d.later ≡ Some q → TakesAsAtOnce served d.config q d.kernel)
-    → Goes served image n d m
+    → IsValid d.kernel → Goes served image n d m

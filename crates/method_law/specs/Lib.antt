@@ -4,3 +4,6 @@ pub mod Kinds
 pub mod Alike
 pub mod Modes
 pub mod Going
+pub mod Runs
+pub mod Takes
+pub mod PostArguments

@@ -1,11 +1,15 @@
-//! The law of the two posting methods: its statement, the relation between a run by each method, and what is
-//! proved of that relation so far. Each law is the contract of a function that does nothing; docs/TWO_METHODS.md has the
-//! plan of the rest.
+//! The law of the two posting methods: its statement, the relation between a machine of a run by each method, and
+//! the laws of posts, instructions, events and runs that it is made of. Each law is the contract of a function that
+//! does nothing; docs/TWO_METHODS.md says how they fit together.
 #![tactic(auto)]
 
 ghost use Rattle.method_law.specs.Relation.{QueueingPerforms, TakingPerforms, PerformingKeeps};
-ghost use Rattle.method_law.specs.Alike.{InstructionsRunAlike, PostsReadTheirArguments, ChecksReadTheirArguments};
+ghost use Rattle.method_law.specs.Alike.{InstructionsRunAlike};
+ghost use Rattle.method_law.specs.PostArguments.{PostsReadTheirArguments, ChecksReadTheirArguments};
+ghost use Rattle.method_law.specs.Takes.{TakesAreAsAtOnce};
 ghost use Rattle.method_law.specs.Going.{EventsGo};
+ghost use Rattle.method_law.specs.Runs.{RunsAgree};
+ghost use Rattle.method_law.specs.Law.{MethodsAgree};
 ghost use Rattle.method_law.specs.Kinds.{PostsKeepKinds, PerformingKeepsKinds, ChecksAnswerAlike};
 
 /// A post that is queued, seen from the kernel with all queued posts performed, is a post that acts at once.
@@ -53,8 +57,26 @@ pub fn checks_read_their_arguments()
     ensures { ChecksReadTheirArguments }
 {}
 
+/// A take of a valid kernel that, under the literal insertion rule, readies no task of the saved priority is as the post at
+/// once.
+pub fn takes_are_as_at_once()
+    ensures { TakesAreAsAtOnce }
+{}
+
 /// Each event of the deferred run that breaks no premise goes with one of the direct run, or alone, and both histories grow
 /// by the same lines.
 pub fn events_go_together()
     ensures { EventsGo }
+{}
+
+/// Where both runs come to their task steps, and the deferred one keeps its kernel valid and breaks no premise, the task
+/// histories are equal.
+pub fn runs_agree()
+    ensures { RunsAgree }
+{}
+
+/// The law of the two methods: where the deferred run of a valid image breaks no premise, its task history is that of the
+/// direct run.
+pub fn methods_agree()
+    ensures { MethodsAgree }
 {}

@@ -1,0 +1,63 @@
+-- A run that breaks no premise has no event that breaks one, and from the start on both runs agree.
+use Rattle.std.specs.Prelude.{◌+◌, ◌||◌, ◌++◌, is_some, if◌then◌else◌, All}
+use Rattle.std.proofs.Common.{◌≡◌, ℕ, List, [], ◌∷◌, refl, sym, ap, ◌∙◌, Bool, true, false, Option, Some, None, arith}
+use Rattle.std.proofs.lemmas.Bool.{false≢true, or_parts}
+use Rattle.std.proofs.lemmas.List.Elements.{All-cons, All-nil}
+use Rattle.kern_base.specs.declared.kinds.Method.TheVariants.{Direct, Deferred}
+use Rattle.kern_base.specs.declared.services.Service.{Service}
+use Rattle.app_image.specs.Image.{ImageRecord}
+use Rattle.inject_list.specs.Lists.{ListRecord}
+use Rattle.machine_core.specs.declared.events.Event.{Event}
+use Rattle.machine_core.specs.Bound.{events_left}
+use Rattle.machine_core.specs.Machine.{start}
+use Rattle.machine_core.specs.Premises.{enters_by_step, enters_locked, loses_post, readies_interrupted, broken_at, is_broken}
+use Rattle.machine_core.specs.Run.{Run, run, history}
+use Rattle.method_law.specs.Modes.{Related, calm}
+use Rattle.method_law.specs.Going.{BreaksNone}
+use Rattle.method_law.specs.Runs.{KernelsStayValid}
+use Rattle.method_law.proofs.GoLaws.{no-switch}
+use Rattle.method_law.proofs.RunsGo.{runs-claim}
+
+-- what is broken at no event is not broken at the first one, nor at those behind it
+unbroken-parts : (b : Bool) (s : ℕ) (rest : Option ℕ) → is_some (if b then Some s else rest) ≡ false → (b ≡ false) × (is_some rest ≡ false)
+unbroken-parts true s rest h = absurd (false≢true (sym h))
+unbroken-parts false s rest h = (refl, h)
+
+-- five premises, none broken
+all-unbroken : (es : List Event) → is_some (broken_at (λ e. enters_by_step e.what) es) ≡ false → is_some (broken_at (λ e. enters_locked e.what) es) ≡ false
+    → is_some (broken_at (λ e. e.marked) es) ≡ false → is_some (broken_at (λ e. loses_post e.what) es) ≡ false → is_some (broken_at (λ e. readies_interrupted e.what) es) ≡ false
+    → All BreaksNone es
+all-unbroken [] p1 p2 p3 p4 p5 = All-nil BreaksNone
+all-unbroken (e ∷ es) p1 p2 p3 p4 p5 =
+    let q1 = unbroken-parts (enters_by_step e.what) e.s (broken_at (λ e. enters_by_step e.what) es) p1 in
+    let q2 = unbroken-parts (enters_locked e.what) e.s (broken_at (λ e. enters_locked e.what) es) p2 in
+    let q3 = unbroken-parts e.marked e.s (broken_at (λ e. e.marked) es) p3 in
+    let q4 = unbroken-parts (loses_post e.what) e.s (broken_at (λ e. loses_post e.what) es) p4 in
+    let q5 = unbroken-parts (readies_interrupted e.what) e.s (broken_at (λ e. readies_interrupted e.what) es) p5 in
+    All-cons BreaksNone e es (record { by_step = q1.0; locked = q2.0; marked = q3.0; lost = q4.0; same = q5.0 }) (all-unbroken es q1.1 q2.1 q3.1 q4.1 q5.1)
+
+pub breaks-none : (r : Run) → is_broken r ≡ false → All BreaksNone r.events
+breaks-none r h =
+    let b1 = is_some (broken_at (λ e. enters_by_step e.what) r.events) in
+    let b2 = is_some (broken_at (λ e. enters_locked e.what) r.events) in
+    let b3 = is_some (broken_at (λ e. e.marked) r.events) in
+    let b4 = is_some (broken_at (λ e. loses_post e.what) r.events) in
+    let b5 = is_some (broken_at (λ e. readies_interrupted e.what) r.events) in
+    let q1 = or_parts b1 (b2 || (b3 || (b4 || b5))) h in
+    let q2 = or_parts b2 (b3 || (b4 || b5)) q1.1 in
+    let q3 = or_parts b3 (b4 || b5) q2.1 in
+    let q4 = or_parts b4 b5 q3.1 in
+    all-unbroken r.events q1.0 q2.0 q3.0 q4.0 q4.1
+
+-- both runs begin with one machine
+pub runs-agree : (served : Service → Bool) (image : ImageRecord) (list : ListRecord) (n : ℕ)
+    → (run served Deferred image list n).last.t ≡ n → (run served Direct image list n).last.t ≡ n
+    → KernelsStayValid served (events_left n (start image list)) (start image list)
+    → is_broken (run served Deferred image list n) ≡ false
+    → history image (run served Deferred image list n) ≡ history image (run served Direct image list n)
+runs-agree served image list n h h2 well unbroken =
+    let m = start image list in
+    let left = events_left n m in
+    let same : Related served n m m = calm m false None 0 m.looks tt (omega arith) in
+    runs-claim served image n (left + left) left left (omega arith) m m same h h2 (breaks-none (run served Deferred image list n) unbroken) well
+    ∙ ap (λ l. l ++ history image (run served Direct image list n)) (no-switch served image n m.t m.current)

@@ -1,0 +1,5 @@
+use Rattle.method_law.proofs.Agreement.{methods-agree}
+use Rattle.method_law.proofs.methods_agree.Goals as goal
+
+pub returns : goal.returns
+returns c = methods-agree

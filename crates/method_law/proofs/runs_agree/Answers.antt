@@ -1,0 +1,5 @@
+use Rattle.method_law.proofs.PremiseLaws.{runs-agree}
+use Rattle.method_law.proofs.runs_agree.Goals as goal
+
+pub returns : goal.returns
+returns c = runs-agree

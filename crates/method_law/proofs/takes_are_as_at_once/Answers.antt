@@ -1,0 +1,5 @@
+use Rattle.method_law.proofs.TakeSame.{take-same}
+use Rattle.method_law.proofs.takes_are_as_at_once.Goals as goal
+
+pub returns : goal.returns
+returns c = take-same
