@@ -357,6 +357,37 @@ fn what_is_no_case_is_refused_at_its_line(rt: HostRuntime) -> Result<(), Fail> {
     Ok(())
 }
 
+// So many declarations of a kind, each on a line.
+fn declarations(alloc: Global, kind: &str, count: u32) -> Result<Vec<u8>, Fail> {
+    let mut text = Vec::new(alloc);
+    for number in 1..=count {
+        let line = match kind {
+            "task" => format!(in alloc; ".task t{number}, 0, 1, 0, 0, 0\n")?,
+            "sem" => format!(in alloc; ".sem s{number}, 0\n")?,
+            _ => format!(in alloc; ".vector {number}, 1, 0, 0\n")?,
+        };
+        text.extend_from_slice(line.as_bytes())?;
+    }
+    Ok(text)
+}
+
+// The declarations that are one more than there may be.
+#[test]
+fn a_declaration_too_many_is_refused_at_its_line(rt: HostRuntime) -> Result<(), Fail> {
+    let alloc = rt.alloc();
+    for (kind, count, want) in [
+        ("task", 61, "refused 61 A14\n"),
+        ("sem", 65, "refused 65 A14\n"),
+        ("vector", 33, "refused 33 A14\n"),
+        ("vector", 32, "refused 0 I1\n"),
+    ] {
+        let text = declarations(alloc, kind, count)?;
+        let held = written(rt.alloc(), "list", &text)?;
+        assert_eq!(rt; held.as_slice(), want.as_bytes(), "{count} of {kind}");
+    }
+    Ok(())
+}
+
 #[test]
 fn injections_are_refused_at_their_first_line(rt: HostRuntime) -> Result<(), Fail> {
     let alloc = rt.alloc();
