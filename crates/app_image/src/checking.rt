@@ -4,6 +4,7 @@ ghost use Rattle.std.specs.Prelude.{◌≡◌, ◌≤◌, length, IfOk};
 ghost use Rattle.app_image.specs.Raw.{IsMade};
 ghost use Rattle.app_image.specs.Refusal.{checked};
 ghost use Rattle.app_image.specs.Image.{IsValidImage};
+ghost use Rattle.app_image.specs.Layout.{HasWords};
 
 use crate::refusals::refusal;
 use crate::settings::config_of;
@@ -16,6 +17,7 @@ pub fn check(raw: RawImage) -> Result<Image, ImageError>
     requires { IsMade raw }
     ensures answer { result ≡ checked raw }
     ensures valid { IfOk result IsValidImage }
+    ensures words { IfOk result HasWords }
 {
     if let Some(error) = refusal(&raw) {
         return Err(error);

@@ -1,8 +1,9 @@
 // A raw image, and a valid one.
 
-ghost use Rattle.std.specs.Prelude.{◌≡◌, ◌++◌, ◌≤◌, length, map};
+ghost use Rattle.std.specs.Prelude.{◌≡◌, ◌++◌, ◌≤◌, All, length, map};
 ghost use Rattle.kern_base.specs.Tables.{KindTable};
 ghost use Rattle.app_image.specs.Image.{kind_table, IsValidImage};
+ghost use Rattle.app_image.specs.Layout.{IsWord, HasWordFields, HasWords};
 
 use crate::{Config, ConfigLine, ObjDef, TaskDef, VectorDef};
 use arrayvec::ArrayVec;
@@ -59,13 +60,20 @@ impl Model for Image {
     ghost invariant = { IsSound };
 }
 
+// Words are words, by their type: a law, to be called where a clause says so of the words of an image.
+fn are_words(words: &[u32])
+    ensures { All IsWord words.now }
+{}
+
 // The kinds of the objects, in order.
 fn kinds_in(objects: &[ObjDef]) -> ArrayVec<Kind, 64>
     requires { length objects.now ≤ 64 }
-    ensures { result.items ≡ map (λ o. o.kind) objects.now }
+    ensures kinds { result.items ≡ map (λ o. o.kind) objects.now }
+    ensures fields { All HasWordFields objects.now }
 {
     let mut kinds = ArrayVec::new();
     for object in objects {
+        are_words(&object.f);
         kinds.push(object.kind);
     }
     kinds
@@ -82,8 +90,11 @@ impl Image {
         config: Config,
     ) -> Image
         requires { IsValidImage (record { tasks = tasks.items; objects = objects.items; vectors = vectors.items; code = code.items; ram = ram.items; config = config }) }
-        ensures { result ≡ record { tasks = tasks.items; objects = objects.items; vectors = vectors.items; code = code.items; ram = ram.items; config = config } }
+        ensures value { result ≡ record { tasks = tasks.items; objects = objects.items; vectors = vectors.items; code = code.items; ram = ram.items; config = config } }
+        ensures words { HasWords result }
     {
+        are_words(&code);
+        are_words(&ram);
         let kinds = Kinds::new(kinds_in(&objects), tasks.len() as u8);
         Image {
             tasks,
