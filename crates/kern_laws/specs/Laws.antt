@@ -5,13 +5,13 @@ use Rattle.kern_base.specs.declared.services.Service.{Service}
 use Rattle.kern_base.specs.declared.requests.Request.{Request}
 use Rattle.kern_model.specs.State.{Kernel, task_at, is_ready}
 use Rattle.kern_model.specs.Micro.{whole, lists_of}
-use Rattle.kern_model.specs.Services.{effect, unit_effect, posted, cost, half}
+use Rattle.kern_model.specs.Services.{effect, unit_effect, posted, cost, half, renews}
 use Rattle.kern_model.specs.Finish.{finished}
 use Rattle.kern_model.specs.Stop.{stopped, callback_ended}
 use Rattle.kern_model.specs.Valid.{IsValid, MayCall, IsInherited}
 use Rattle.kern_model.specs.Inherit.{renewed}
 use Rattle.kern_model.specs.Pool.{pool_of}
-use Rattle.kern_model.proofs.CostEffect.{renews}
+use Rattle.kern_laws.specs.Consistent.{IsConsistent}
 
 -- After all its micro-steps a call's half-made lists are the lists of its effect.
 abbrev pub HalfEndsAsEffect : Type 0
@@ -58,12 +58,12 @@ pub record PostStays (old new : Kernel) : Type 0 where
 abbrev pub PostsKeep : Type 0
 PostsKeep = (served : Service → Bool) (s : Service) (args : List ℕ) (c h : ℕ) (k : Kernel) → is_post s ≡ true → PostStays k (posted served s args c h k).kernel
 
--- A call takes at most 32,000 micro-steps, and at most 1,202 where its service renews no priorities.
+-- A call takes at most 32,000 micro-steps, and of a consistent kernel at most 1,200 where its service renews no priorities.
 abbrev pub CostIsBounded : Type 0
 CostIsBounded = (served : Service → Bool) (r : Request) (x c h : ℕ) (k : Kernel) → IsValid k → (is_post r.service ≡ false → MayCall x k) → cost (effect served r x c h k) k ≤ 32000
 
 abbrev pub QuickCostIsBounded : Type 0
-QuickCostIsBounded = (served : Service → Bool) (r : Request) (x c h : ℕ) (k : Kernel) → IsValid k → renews r.service ≡ false → cost (effect served r x c h k) k ≤ 1202
+QuickCostIsBounded = (served : Service → Bool) (r : Request) (x c h : ℕ) (k : Kernel) → IsValid k → IsConsistent k → renews r.service ≡ false → cost (effect served r x c h k) k ≤ 1200
 
 abbrev pub UnitCostIsBounded : Type 0
 UnitCostIsBounded = (x : ℕ) (k : Kernel) → IsValid k → cost (unit_effect x k) k ≤ 32000

@@ -1,7 +1,8 @@
 //! The laws of the kernel's definitions: each is the contract of a function that does nothing, for every
-//! state and every call. The statements stand in `specs/Laws.antt`, their proofs in `kern_model`.
+//! state and every call. The statements stand in `specs/`, their proofs in `kern_model` and here.
 #![tactic(auto)]
 
+ghost use Rattle.kern_laws.specs.Whole.{EffectKeepsWhole, UnitKeepsWhole, FinishKeepsWhole, TrapKeepsWhole, CallbackEndKeepsWhole};
 ghost use Rattle.kern_laws.specs.Laws.{HalfEndsAsEffect, HalfEndsAsUnit, EffectKeepsValid, UnitKeepsValid, FinishKeepsValid, TrapKeepsValid, CallbackEndKeepsValid, PostsKeep, CostIsBounded, QuickCostIsBounded, UnitCostIsBounded, EffectKeepsMessages, UnitKeepsMessages, FinishKeepsMessages, TrapKeepsMessages, RenewalInherits};
 
 /// After all its micro-steps, a call has made the links of its effect.
@@ -49,7 +50,7 @@ pub fn a_call_is_bounded()
     ensures { CostIsBounded }
 {}
 
-/// A call that renews no priorities takes at most 1,202 micro-steps, its first and last among them.
+/// A call of a consistent kernel that renews no priorities takes at most 1,200 micro-steps, its first and last among them.
 pub fn a_call_without_renewal_is_bounded()
     ensures { QuickCostIsBounded }
 {}
@@ -82,4 +83,29 @@ pub fn a_trap_keeps_the_messages()
 /// After a renewal each living application task and the timer task have their inherited priorities.
 pub fn a_renewal_makes_priorities_the_inherited_ones()
     ensures { RenewalInherits }
+{}
+
+/// A call keeps the whole of what the kernel keeps true of its state.
+pub fn a_call_keeps_the_kernel_whole()
+    ensures { EffectKeepsWhole }
+{}
+
+/// A unit of an internal task keeps the whole of it.
+pub fn a_unit_keeps_the_kernel_whole()
+    ensures { UnitKeepsWhole }
+{}
+
+/// A task that reads the result of its wait keeps the whole of it.
+pub fn a_finish_keeps_the_kernel_whole()
+    ensures { FinishKeepsWhole }
+{}
+
+/// A task that traps keeps the whole of it.
+pub fn a_trap_keeps_the_kernel_whole()
+    ensures { TrapKeepsWhole }
+{}
+
+/// The end of a callback keeps the whole of it.
+pub fn the_end_of_a_callback_keeps_the_kernel_whole()
+    ensures { CallbackEndKeepsWhole }
 {}

@@ -71,6 +71,21 @@ update_object_keeps P f (b ∷ bs) zero h old (suc i) = old (suc i)
 update_object_keeps P f (b ∷ bs) (suc o) h old zero = old 0
 update_object_keeps P f (b ∷ bs) (suc o) h old (suc i) = update_object_keeps P f bs o h (λ j. old (suc j)) i
 
+pub update_object_at : (P : ℕ → Object → Type 0) (f : Object → Object) (bs : List Object) (o : ℕ) → (P o (get_or bs o no_object) → P o (f (get_or bs o no_object))) → ((i : ℕ) → P i (get_or bs i no_object)) → (i : ℕ) → P i (get_or (update_object bs o f) i no_object)
+update_object_at P f [] o h old i = old i
+update_object_at P f (b ∷ bs) zero h old zero = h (old 0)
+update_object_at P f (b ∷ bs) zero h old (suc i) = old (suc i)
+update_object_at P f (b ∷ bs) (suc o) h old zero = old 0
+update_object_at P f (b ∷ bs) (suc o) h old (suc i) = update_object_at (λ n. P (suc n)) f bs o h (λ j. old (suc j)) i
+
+-- what a change of one object does not alter there is as before, at each object
+pub update_object_same : {B : Type 0} (g : Object → B) (f : Object → Object) (bs : List Object) (o i : ℕ) → g (f (get_or bs o no_object)) ≡ g (get_or bs o no_object) → g (get_or (update_object bs o f) i no_object) ≡ g (get_or bs i no_object)
+update_object_same g f [] o i h = refl
+update_object_same g f (b ∷ bs) zero zero h = h
+update_object_same g f (b ∷ bs) zero (suc i) h = refl
+update_object_same g f (b ∷ bs) (suc o) zero h = refl
+update_object_same g f (b ∷ bs) (suc o) (suc i) h = update_object_same g f bs o i h
+
 pub valid-with_content : (k : Kernel) (o : ℕ) (content : Content) → IsContent content → IsValid k → IsValid (with_content k o content)
 valid-with_content k o content c v =
     valid-objects k (update_object k.objects o (λ b. record b { content = content })) (length-set k.objects o _)

@@ -1,4 +1,5 @@
--- Every service and unit takes at most 32,000 micro-steps, and without a renewal of priorities at most 1,202.
+-- Every service and unit takes at most 32,000 micro-steps, and without a renewal of priorities, but for a post of event flags, at
+-- most 1,200.
 use Rattle.std.proofs.Common.{◌≡◌, ◌++◌, ℕ, suc, ◌<◌, ◌≤◌, ◌+◌, List, [], ◌∷◌, length, refl, sym, ap, subst, ◌∙◌, Bool, true, false, ◌&&◌, arith, Option, Some, None, map}
 use Rattle.std.specs.Prelude.{◌==◌, ◌-◌, ◌^◌, ◌%◌, nat_lt, nat_le, if◌then◌else◌, cond, filter}
 use Rattle.kern_base.specs.declared.services.Service.{Service}
@@ -17,7 +18,7 @@ use Rattle.kern_model.specs.Effect.{Effect, refused, done, answer, answers, fine
 use Rattle.kern_model.specs.Checks.{argument, named_task, call_error}
 use Rattle.kern_model.specs.Semaphores.{sem_post, sem_pend}
 use Rattle.kern_model.specs.Queues.{q_post, q_pend}
-use Rattle.kern_model.specs.Flags.{flag_pend}
+use Rattle.kern_model.specs.Flags.{flag_post, flag_pend}
 use Rattle.kern_model.specs.Inherit.{renewing, waited_objects}
 use Rattle.kern_model.specs.Mutexes.{nests, mutex_pend, passes_to, released, mutex_post, mutex_aborts, mutex_deletes}
 use Rattle.kern_model.specs.Waiters.{aborts, deletes}
@@ -27,7 +28,7 @@ use Rattle.kern_model.specs.Tasks.{unready_blocks, task_suspend, task_resume, ta
 use Rattle.kern_model.specs.RoundRobin.{round_robin_yield}
 use Rattle.kern_model.specs.Time.{time_dly, resumes_delayed, time_tick, due, timed_out, waits_for_signal, ticked, tick_unit}
 use Rattle.kern_model.specs.Timers.{tmr_start, tmr_stop_in, tmr_stop, tmr_remain_get, tmr_state_get, tmr_del, timer_counts, timer_ends, timer_goes_on, timer_unit, due_timer}
-use Rattle.kern_model.specs.Services.{effect, after_checks, row_of, content_for, unit_effect, cost}
+use Rattle.kern_model.specs.Services.{effect, after_checks, row_of, content_for, unit_effect, cost, renews}
 use Rattle.kern_model.specs.Valid.{IsValid, MayCall}
 use Rattle.kern_model.proofs.LeadLaws.{choice, Leads, leads-blocks_on, leads-woken}
 use Rattle.kern_model.proofs.Tests.{choice_by, equal, at_most, and_first, and_second}
@@ -200,32 +201,23 @@ within-timer_row s (Timed t) r k =
     (record { most = omega arith }, within-tmr_stop_in t.state t (argument r 0) k, record { most = omega arith }, record { most = omega arith }, record { most = omega arith })
 within-timer_row s _ r k = (record { most = omega arith }, record { most = omega arith }, record { most = omega arith }, record { most = omega arith }, record { most = omega arith })
 
--- the services that renew priorities
-abbrev pub renews : Service → Bool
-renews MutexPend = true
-renews MutexPost = true
-renews MutexPendAbort = true
-renews MutexDel = true
-renews TaskDel = true
-renews TaskChangePrio = true
-renews _ = false
-
 few-chosen : (k : Kernel) → IsValid k → (r : Request) → length (chosen (argument r 1 == 1) (list_at k.pend (argument r 0))) ≤ 60
 few-chosen k v r = omega (arith, chosen-le (argument r 1 == 1) (list_at k.pend (argument r 0)), length-pend k v (argument r 0))
 
-quick-row_of : (s : Service) (r : Request) (x c h : ℕ) (k : Kernel) → IsValid k → renews s ≡ false → Within 1200 k (row_of s r x c h k)
-quick-row_of s r x c h k v q = by_service s q
+-- A service that renews no priorities takes no more than so much, where a post of event flags does not.
+pub quick-row_of : (n : ℕ) (s : Service) (r : Request) (x c h : ℕ) (k : Kernel) → 1198 ≤ n → IsValid k → Within n k (flag_post (content_for r k) r h k) → renews s ≡ false → Within n k (row_of s r x c h k)
+quick-row_of n s r x c h k least v flags q = by_service s q
   where
-    up : (e : Effect) → Within 1198 k e → Within 1200 k e
-    up e w = within-more 1198 1200 k e (omega arith) w
+    up : (e : Effect) → Within 1198 k e → Within n k e
+    up e w = within-more 1198 n k e least w
 
-    up_woken : (e : Effect) → Within 1140 k e → Within 1200 k e
-    up_woken e w = within-more 1140 1200 k e (omega arith) w
+    up_woken : (e : Effect) → Within 1140 k e → Within n k e
+    up_woken e w = within-more 1140 n k e (omega (arith, least)) w
 
-    by_service : (s : Service) → renews s ≡ false → Within 1200 k (row_of s r x c h k)
+    by_service : (s : Service) → renews s ≡ false → Within n k (row_of s r x c h k)
     by_service SemPost q = up (sem_post (content_for r k) r h k) (within-sem_post (content_for r k) r h k v)
     by_service QPost q = up (q_post (content_for r k) r h k) (within-q_post (content_for r k) r h k v)
-    by_service FlagPost q = within-flag_post (content_for r k) r h k v
+    by_service FlagPost q = flags
     by_service TaskSemPost q = let y = named_task r x in up (task_sem_post_to (task_at k y).waiting y h k) (within-task_sem_post_to (task_at k y).waiting y h k v)
     by_service TaskQPost q = let y = named_task r x in up (task_q_post_to (task_at k y).waiting r y h k) (within-task_q_post_to (task_at k y).waiting r y h k v)
     by_service TimeTick q = up (time_tick c h k) (within-time_tick c h k)
@@ -245,7 +237,7 @@ quick-row_of s r x c h k v q = by_service s q
     by_service FlagDel q = let xs = list_at k.pend (argument r 0) in up_woken (deletes (argument r 1 == 1) xs (argument r 0) h k) (within-deletes (argument r 1 == 1) xs (argument r 0) h k v (length-pend k v (argument r 0)))
     by_service TimeDly q = up (time_dly r x k) (within-time_dly r x k v)
     by_service TimeDlyResume q = let y = named_task r x in up (resumes_delayed (task_at k y).waiting y h k) (within-resumes_delayed (task_at k y).waiting y h k v)
-    by_service TimeGet q = record { most = omega arith }
+    by_service TimeGet q = record { most = omega (arith, least) }
     by_service TaskSuspend q = up (task_suspend r x k) (within-task_suspend r x k)
     by_service TaskResume q = up (task_resume r x h k) (within-task_resume r x h k)
     by_service RoundRobinYield q = up (round_robin_yield x k) (within-round_robin_yield x k)
@@ -256,7 +248,7 @@ quick-row_of s r x c h k v q = by_service s q
     by_service TmrRemainGet q = up (tmr_remain_get (content_for r k) r k) (within-timer_row TmrRemainGet (content_for r k) r k).2
     by_service TmrStateGet q = up (tmr_state_get (content_for r k) k) (within-timer_row TmrStateGet (content_for r k) r k).3
     by_service TmrDel q = up (tmr_del (content_for r k) r k) (within-timer_row TmrDel (content_for r k) r k).4
-    by_service (Unknown number) q = record { most = omega arith }
+    by_service (Unknown number) q = record { most = omega (arith, least) }
     by_service _ q = absurd (true≢false q)
 
 slow-row_of : (s : Service) (r : Request) (x c h : ℕ) (k : Kernel) → s ≡ r.service → call_error r x k ≡ None → IsValid k → (is_post s ≡ false → MayCall x k) → renews s ≡ true → Within 31942 k (row_of s r x c h k)
@@ -274,7 +266,7 @@ slow-row_of _ r x c h k e checked v m q = absurd (false≢true q)
 
 within-row_of : (b : Bool) (r : Request) (x c h : ℕ) (k : Kernel) → renews r.service ≡ b → call_error r x k ≡ None → IsValid k → (is_post r.service ≡ false → MayCall x k) → Within 31998 k (row_of r.service r x c h k)
 within-row_of false r x c h k q checked v m =
-    within-more 1200 31998 k (row_of r.service r x c h k) (omega arith) (quick-row_of r.service r x c h k v q)
+    within-more 1200 31998 k (row_of r.service r x c h k) (omega arith) (quick-row_of 1200 r.service r x c h k (omega arith) v (within-flag_post (content_for r k) r h k v) q)
 within-row_of true r x c h k q checked v m =
     within-more 31942 31998 k (row_of r.service r x c h k) (omega arith) (slow-row_of r.service r x c h k refl checked v m q)
 
@@ -289,19 +281,6 @@ cost-effect-le served r x c h k v m =
       arith,
       cost-within 31998 k (effect served r x c h k)
           (choice (Within 31998 k) (served r.service) (after_checks (call_error r x k) r x c h k) (refused k CallUnknown) (within-after_checks (call_error r x k) r x c h k refl v m) (record { most = omega arith })),
-    )
-
-quick-after_checks : (a : Option OsErr) (r : Request) (x c h : ℕ) (k : Kernel) → IsValid k → renews r.service ≡ false → Within 1200 k (after_checks a r x c h k)
-quick-after_checks (Some err) r x c h k v q = record { most = omega arith }
-quick-after_checks None r x c h k v q = quick-row_of r.service r x c h k v q
-
--- Where the service renews no priorities, the blocks take at most 1,200.
-pub cost-quick-le : (served : Service → Bool) (r : Request) (x c h : ℕ) (k : Kernel) → IsValid k → renews r.service ≡ false → cost (effect served r x c h k) k ≤ 1202
-cost-quick-le served r x c h k v q =
-    omega (
-      arith,
-      cost-within 1200 k (effect served r x c h k)
-          (choice (Within 1200 k) (served r.service) (after_checks (call_error r x k) r x c h k) (refused k CallUnknown) (quick-after_checks (call_error r x k) r x c h k v q) (record { most = omega arith })),
     )
 
 -- A unit of an internal task takes at most 32,000.

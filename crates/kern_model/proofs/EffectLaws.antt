@@ -2,4 +2,4 @@
 pub use Rattle.kern_model.proofs.ValidEffect.{valid-effect, valid-unit, checked_object, NamedTask, checked_task}
 pub use Rattle.kern_model.proofs.ValidRows.{ValidAfter, AllWait-chosen, valid-tail, caller_ready, valid-one_object, valid-no_object}
 pub use Rattle.kern_model.proofs.CostRows.{chosen-le, wake_cost-le}
-pub use Rattle.kern_model.proofs.CostEffect.{cost-effect-le, cost-quick-le, cost-unit-le, renews}
+pub use Rattle.kern_model.proofs.CostEffect.{cost-effect-le, cost-unit-le}

@@ -1,8 +1,10 @@
 -- What tests tell, and choices by a test.
-use Rattle.std.proofs.Common.{◌≡◌, ◌≢◌, ◌⊎◌, ℕ, suc, ◌<◌, ◌≤◌, Bool, true, false, ◌&&◌, ◌||◌, not, refl, sym, ◌∙◌, arith, inl, inr, Some, None}
+use Rattle.std.proofs.Common.{◌≡◌, ◌≢◌, ◌⊎◌, ℕ, suc, ◌<◌, ◌≤◌, Bool, true, false, ◌&&◌, ◌||◌, not, refl, sym, ◌∙◌, arith, inl, inr, Option, Some, None}
 use Rattle.std.specs.Prelude.{◌==◌, nat_lt, nat_le, if◌then◌else◌}
 use Rattle.std.proofs.lemmas.Bool.{false≢true, true≢false}
 use Rattle.std.proofs.lemmas.Bool.Decides.{eqb_tells, leb_tells}
+use Rattle.kern_base.specs.declared.errors.OsErr.{OsErr}
+use Rattle.kern_model.specs.Checks.{first_error}
 
 -- of a choice, what holds of each side where it is chosen
 pub choice_by : {A : Type 0} (P : A → Type 0) (b : Bool) (x y : A) → (b ≡ true → P x) → (b ≡ false → P y) → P (if b then x else y)
@@ -58,3 +60,23 @@ not_false false h = absurd (true≢false h)
 -- no error where there is none
 pub some≢none : {A : Type 0} (x : A) → Some x ≡ None → ⊥
 some≢none x h = cc
+
+-- of two checks that are passed, each is
+
+pub first_passed : (a b : Option OsErr) → first_error a b ≡ None → a ≡ None
+first_passed None b h = refl
+first_passed (Some e) b h = absurd (some≢none e h)
+
+pub second_passed : (a b : Option OsErr) → first_error a b ≡ None → b ≡ None
+second_passed None b h = h
+second_passed (Some e) b h = absurd (some≢none e h)
+
+-- where a test that fails a check did not
+
+pub passed_if : (b : Bool) (e : OsErr) (other : Option OsErr) → (if b then Some e else other) ≡ None → (b ≡ false) × (other ≡ None)
+passed_if true e other h = absurd (some≢none e h)
+passed_if false e other h = (refl, h)
+
+pub passed_then : (b : Bool) (e : OsErr) (other : Option OsErr) → (if b then other else Some e) ≡ None → (b ≡ true) × (other ≡ None)
+passed_then true e other h = (refl, h)
+passed_then false e other h = absurd (some≢none e h)

@@ -12,39 +12,21 @@ use Rattle.kern_base.specs.declared.errors.OsErr.TheVariants.{CallUnknown, Objec
 use Rattle.kern_base.specs.Checks.{is_post, static_error, target_error, task_error, names_option, kinds_wanted, names_task, caller_number}
 use Rattle.kern_model.specs.State.{Kernel, list_at, task_at, object_at, kinds_of, is_ready}
 use Rattle.kern_model.specs.Effect.{refused, chosen}
-use Rattle.kern_model.specs.Checks.{argument, named_task, call_error, first_error, existence_error, is_deleted}
+use Rattle.kern_model.specs.Checks.{argument, named_task, call_error, existence_error, is_deleted}
 use Rattle.kern_model.specs.TaskObjects.{waits_for_semaphore, waits_for_queue}
 use Rattle.kern_model.specs.Several.{multi_error}
 use Rattle.kern_model.specs.Services.{effect, after_checks, row_of, content_for, unit_effect}
 use Rattle.kern_model.specs.Valid.{IsValid, MayCall}
-use Rattle.kern_model.proofs.Tests.{choice_by, equal, less, or_either, and_first, and_second, not_false, some≢none}
+use Rattle.kern_model.proofs.Tests.{choice_by, equal, less, or_either, and_first, and_second, not_false, first_passed, second_passed, passed_if, passed_then}
 use Rattle.kern_model.proofs.LeadLaws.{choice}
 use Rattle.kern_model.proofs.ChangeLaws.{object_inside, AllWait-pend}
 use Rattle.kern_model.proofs.ValidRows.{ValidAfter, AllWait-chosen, valid-sem_post, valid-sem_pend, valid-q_post, valid-q_pend, valid-flag_post, valid-flag_pend, valid-mutex_pend, valid-mutex_post, valid-aborts, valid-mutex_aborts, valid-deletes, valid-mutex_deletes, valid-task_sem_post_to, valid-task_q_post_to, valid-task_sem_pend_on, valid-task_q_pend_on, valid-task_abort, semaphore_waits, queue_waits}
 use Rattle.kern_model.proofs.ValidTasks.{valid-task_suspend, valid-task_resume, valid-task_del, valid-task_change_prio, valid-sched_lock, valid-sched_unlock, valid-round_robin_yield, valid-time_dly, valid-resumes_delayed, valid-time_tick, valid-tmr_start, valid-tmr_stop, valid-tmr_remain_get, valid-tmr_state_get, valid-tmr_del, valid-multi_checked, valid-tick_unit, valid-timer_unit}
 
--- what the checks of a call tell
-
-second_error : (a b : Option OsErr) → first_error a b ≡ None → b ≡ None
-second_error None b h = h
-second_error (Some e) b h = absurd (some≢none e h)
-
-no_first : (a b : Option OsErr) → first_error a b ≡ None → a ≡ None
-no_first None b h = refl
-no_first (Some e) b h = absurd (some≢none e h)
-
-passed_if : (b : Bool) (e : OsErr) (other : Option OsErr) → (if b then Some e else other) ≡ None → (b ≡ false) × (other ≡ None)
-passed_if true e other h = absurd (some≢none e h)
-passed_if false e other h = (refl, h)
-
-passed_then : (b : Bool) (e : OsErr) (other : Option OsErr) → (if b then other else Some e) ≡ None → (b ≡ true) × (other ≡ None)
-passed_then true e other h = (refl, h)
-passed_then false e other h = absurd (some≢none e h)
-
 -- the object that a call names stands among the objects
 pub checked_object : (r : Request) (x : ℕ) (k : Kernel) (w : Kind) (ws : List Kind) → kinds_wanted r.service ≡ w ∷ ws → call_error r x k ≡ None → argument r 0 < length k.objects
 checked_object r x k w ws e h =
-    let second = second_error (static_error r.service r.args (kinds_of k) (nat_lt x 60)) (existence_error r x k) h in
+    let second = second_passed (static_error r.service r.args (kinds_of k) (nat_lt x 60)) (existence_error r x k) h in
     let there : is_deleted (kinds_wanted r.service) (object_at k (argument r 0)) ≡ false =
     (passed_if (is_deleted (kinds_wanted r.service) (object_at k (argument r 0))) ObjectType (if names_task r.service && not (task_at k (named_task r x)).alive then Some TaskNotExist else None) second).0 in
     object_inside k (argument r 0) (subst (λ ws. is_deleted ws (object_at k (argument r 0)) ≡ false) e there)
@@ -75,11 +57,11 @@ pub record NamedTask (r : Request) (x : ℕ) (k : Kernel) : Type 0 where
 pub checked_task : (r : Request) (x : ℕ) (k : Kernel) → k.settings.tasks ≤ 60 → kinds_wanted r.service ≡ [] → names_task r.service ≡ true → call_error r x k ≡ None → NamedTask r x k
 checked_task r x k l e n h =
     let own = nat_lt x 60 in
-    let first = no_first (static_error r.service r.args (kinds_of k) own) (existence_error r x k) h in
+    let first = first_passed (static_error r.service r.args (kinds_of k) own) (existence_error r x k) h in
     let target = (passed_then (names_option r.service r.args) OptionInvalid (target_error (kinds_wanted r.service) (names_task r.service) r.args (kinds_of k) own) first).1 in
     let named : task_error (argument r 0) k.settings.tasks own ≡ None = subst (λ b. target_error [] b r.args (kinds_of k) own ≡ None) n (subst (λ ws. target_error ws (names_task r.service) r.args (kinds_of k) own ≡ None) e target) in
     let test = (passed_then (nat_lt (argument r 0) k.settings.tasks || (own && (argument r 0 == caller_number))) TaskInvalid None named).0 in
-    let second = second_error (static_error r.service r.args (kinds_of k) own) (existence_error r x k) h in
+    let second = second_passed (static_error r.service r.args (kinds_of k) own) (existence_error r x k) h in
     let after = (passed_if (is_deleted (kinds_wanted r.service) (object_at k (argument r 0))) ObjectType (if names_task r.service && not (task_at k (named_task r x)).alive then Some TaskNotExist else None) second).1 in
     let dead = (passed_if (names_task r.service && not (task_at k (named_task r x)).alive) TaskNotExist None after).0 in
     record {

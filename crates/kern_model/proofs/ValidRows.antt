@@ -24,7 +24,7 @@ use Rattle.kern_model.specs.Mutexes.{nests, mutex_pend, passes_to, released, mut
 use Rattle.kern_model.specs.Waiters.{aborts, deletes, emptied, without_object, messages_in}
 use Rattle.kern_model.specs.TaskObjects.{task_counts_up, task_sem_post_to, task_store, task_q_post_to, task_sem_pend_on, task_q_pend_on, task_abort_of, task_abort, waits_for_semaphore, waits_for_queue}
 use Rattle.kern_model.specs.Valid.{IsValid, IsContent, IsWord, MayCall, AllWait, has_result}
-use Rattle.kern_model.proofs.Tests.{choice_by, equal, unequal, above, some≢none}
+use Rattle.kern_model.proofs.Tests.{choice_by, equal, unequal, above, passed_if}
 use Rattle.kern_model.proofs.LeadLaws.{choice}
 use Rattle.kern_model.proofs.ValidLaws.{valid-wakes, valid-wakes_all, valid-blocked, AllWait-wakes}
 use Rattle.kern_model.proofs.ChangeLaws.{valid-objects, valid-with_content, update_object_keeps, AllWait-pend}
@@ -95,12 +95,8 @@ valid-sem_pend _ r x k c v m inside = v
 -- queues
 
 -- there is room where a message can be stored
-store_room : (held limit free : ℕ) → store_error held limit free ≡ None → held < limit
-store_room held limit free h = by_test (nat_le limit held) refl h
-  where
-    by_test : (b : Bool) → nat_le limit held ≡ b → (if b then Some QueueMax else (if free == 0 then Some PoolEmpty else None)) ≡ None → held < limit
-    by_test true e h = absurd (some≢none QueueMax h)
-    by_test false e h = above limit held e
+pub store_room : (held limit free : ℕ) → store_error held limit free ≡ None → held < limit
+store_room held limit free h = above limit held (passed_if (nat_le limit held) QueueMax (if free == 0 then Some PoolEmpty else None) h).0
 
 pub length-stored : (b : Bool) (m : ℕ × ℕ) (ms : List (ℕ × ℕ)) → length (stored b m ms) ≡ length ms + 1
 length-stored true m ms = omega arith

@@ -188,7 +188,7 @@ no_signal n = ap (λ b. if b then Signal else No) (sym (above_zero n))
 no_timer_signal : (n : ℕ) (b : Bool) → No ≡ (if is_zero (n + 1) && b then Signal else No)
 no_timer_signal n b = ap (λ a. if a && b then Signal else No) (sym (above_zero n))
 
-valid-tick_signalled : (w : Waiting) (h : ℕ) (k : Kernel) → (task_at k 60).waiting ≡ w → IsValid k → ValidAfter (signalled w 60 h (record k { tick_signals = k.tick_signals + 1 }))
+pub valid-tick_signalled : (w : Waiting) (h : ℕ) (k : Kernel) → (task_at k 60).waiting ≡ w → IsValid k → ValidAfter (signalled w 60 h (record k { tick_signals = k.tick_signals + 1 }))
 valid-tick_signalled Signal h k e v =
     valid-signalled k v 60 (inl refl) h (k.tick_signals + 1) k.timer_signals k.tick_calls e
     (ap (λ (t : Task). t.waiting) (task-updated k.tasks 60 (λ t. record t { waiting = No }) (omega (arith, v.tasks))) ∙ no_signal k.tick_signals)
@@ -272,14 +272,14 @@ valid-tick_wakes k v =
     word : (n : ℕ) → IsWord (n % 2 ^ 32)
     word n = grind arith
 
-abbrev tick_renewed : Kernel → Kernel
+abbrev pub tick_renewed : Kernel → Kernel
 tick_renewed k = renewed at_tail (tick_wakes k)
 
-valid-tick_renewed : (k : Kernel) → IsValid k → IsValid (tick_renewed k)
+pub valid-tick_renewed : (k : Kernel) → IsValid k → IsValid (tick_renewed k)
 valid-tick_renewed k v = valid-renewing at_tail (record { kernel = tick_wakes k; outcome = Gone; blocks = [] }) (valid-tick_wakes k v)
 
 -- a tick's kernel is that one with a signal less
-kernel-ticked : (k : Kernel) → (ticked k).kernel ≡ signals (tick_renewed k) (k.tick_signals - 1)
+pub kernel-ticked : (k : Kernel) → (ticked k).kernel ≡ signals (tick_renewed k) (k.tick_signals - 1)
 kernel-ticked k =
     let tick = (k.ticks + 1) % 2 ^ 32 in
     ap (λ j. renewed at_tail j) (wakes_all-signals (λ t. timed_out t.waiting t) (prio_of k tick_task) (due tick k.matches) (record k { ticks = tick }) (k.tick_signals - 1))

@@ -91,6 +91,16 @@ program_serves SemPost = true
 program_serves SemPend = true
 program_serves _ = false
 
+-- the services that renew priorities
+abbrev pub renews : Service → Bool
+renews MutexPend = true
+renews MutexPost = true
+renews MutexPendAbort = true
+renews MutexDel = true
+renews TaskDel = true
+renews TaskChangePrio = true
+renews _ = false
+
 -- a post as a request
 abbrev pub post_request : Service → List ℕ → Request
 post_request s args = record { service = s; args = args; ids = replicate 8 0; n_ids = 0; table = false }
