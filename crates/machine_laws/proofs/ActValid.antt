@@ -35,7 +35,7 @@ units x k e =
     ]
 
 -- an instruction is of an application task, or of the timer task in a callback
-abbrev IsRunner : ℕ → Kernel → Type 0
+abbrev pub IsRunner : ℕ → Kernel → Type 0
 IsRunner x k = (x < 60) ⊎ ((x ≡ 61) × (k.in_callback ≡ true))
 
 in_callback : (x : ℕ) (k : Kernel) → works_in_units x k ≡ false → x ≡ 61 → k.in_callback ≡ true
@@ -56,7 +56,7 @@ runner x k v ready idle e = by (x == 61) refl
         inl (omega (arith, below, tick, timer, idle))
 
 -- an application task runs only while the timer task is not processing
-not_processing : (x : ℕ) (k : Kernel) → IsActing x k → x < 60 → k.processing ≡ false
+pub not_processing : (x : ℕ) (k : Kernel) → IsActing x k → x < 60 → k.processing ≡ false
 not_processing x k a l = elim a.timer [ inl p ↦ p | inr e ↦ absurd (omega (arith, l, e)) ]
 
 may_call : (x : ℕ) (k : Kernel) → IsActing x k → has_result (task_at k x).answered ≡ false → IsRunner x k → MayCall x k
@@ -89,7 +89,7 @@ module _ (served : Service → Bool) (method : Method) (m : Machine) (v : V serv
   rest : IsAtRest method m.kernel m.current m.later m.frames
   rest = rest-of served method m v none
 
-  act : IsActing m.current m.kernel
+  pub act : IsActing m.current m.kernel
   act = acting method m.kernel m.current m.later m.frames v.kernel rest empty
 
   valid-finishes : (registers : List Registers) (memory : List ℕ) → length registers ≡ length m.registers → V served method (record m { kernel = finished m.current m.kernel; registers = registers; memory = memory; t = m.t + 1 })
@@ -157,7 +157,7 @@ module _ (served : Service → Bool) (method : Method) (m : Machine) (v : V serv
         picked = λ (l : 1 ≡ 0). absurd (omega (arith, l));
       }
 
-  runs : Instructs m.current m → IsRunner m.current m.kernel
+  pub runs : Instructs m.current m → IsRunner m.current m.kernel
   runs i = runner m.current m.kernel v.kernel act.ready i.not_idle i.no_unit
 
   in_its_callback : IsRunner m.current m.kernel → m.current ≡ 61 → m.kernel.in_callback ≡ true

@@ -20,3 +20,7 @@ pub mod FewSteps
 pub mod PromptLaws
 pub mod TimerCurrent
 pub mod Runs
+pub mod RequestTable
+pub mod WholeNext
+pub mod WholeStart
+pub mod WholeRuns

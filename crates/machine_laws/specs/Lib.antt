@@ -5,3 +5,4 @@ pub mod Valid
 pub mod Ending
 pub mod StepBound
 pub mod Prompt
+pub mod Whole

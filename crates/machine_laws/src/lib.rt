@@ -9,6 +9,7 @@ ghost use Rattle.machine_laws.specs.Valid.{NextKeepsValid, StartIsValid, TimerTa
 ghost use Rattle.machine_laws.specs.Ending.{EventsLeftFall, EveryRunEnds, FewFramesStand, DeferredCodeKeepsTheTask};
 ghost use Rattle.machine_laws.specs.StepBound.{RulesAreOfEvents, RawStepsAreBounded, NothingIsAdded, RawStepsAreFew};
 ghost use Rattle.machine_laws.specs.Prompt.{EntryIsPrompt};
+ghost use Rattle.machine_laws.specs.Whole.{NextKeepsWhole, StartIsWhole, RunsAreWhole};
 
 /// An instruction that traps leaves all registers and the memory as they were, and its trap names its address.
 pub fn a_trap_changes_nothing()
@@ -114,3 +115,30 @@ pub fn an_entry_is_prompt()
 pub fn the_timer_task_is_current_while_processing()
     ensures { TimerTaskIsCurrent }
 {}
+
+/// Every event keeps the machine whole.
+pub fn every_event_keeps_the_machine_whole()
+    ensures { NextKeepsWhole }
+{
+    kern_laws::a_call_keeps_the_kernel_whole();
+    kern_laws::a_unit_keeps_the_kernel_whole();
+    kern_laws::a_finish_keeps_the_kernel_whole();
+    kern_laws::a_trap_keeps_the_kernel_whole();
+    kern_laws::the_end_of_a_callback_keeps_the_kernel_whole();
+}
+
+/// The start of a run is whole, of each valid image with a valid list.
+pub fn the_start_is_whole()
+    ensures { StartIsWhole }
+{}
+
+/// Every machine of a run is whole.
+pub fn every_machine_of_a_run_is_whole()
+    ensures { RunsAreWhole }
+{
+    kern_laws::a_call_keeps_the_kernel_whole();
+    kern_laws::a_unit_keeps_the_kernel_whole();
+    kern_laws::a_finish_keeps_the_kernel_whole();
+    kern_laws::a_trap_keeps_the_kernel_whole();
+    kern_laws::the_end_of_a_callback_keeps_the_kernel_whole();
+}

@@ -1,0 +1,91 @@
+-- The table of a call that begins was read in RAM, so where a table is in hand it lies there.
+use Rattle.std.specs.Prelude.{◌==◌, ◌%◌, ◌&&◌, ◌*◌, ◌-◌, nat_le, length, take, replicate, slice_index, if◌then◌else◌}
+use Rattle.std.proofs.Common.{◌≡◌, ◌≤◌, ℕ, zero, suc, ◌+◌, Bool, true, List, ◌++◌, Option, Some, None, refl, sym, ap, ◌∙◌, subst}
+use Rattle.std.proofs.lemmas.Bool.{false≢true}
+use Rattle.std.proofs.lemmas.List.{take_at}
+use Rattle.kern_base.specs.Services.{service_of}
+use Rattle.kern_base.specs.declared.services.Service.{Service}
+use Rattle.kern_base.specs.declared.requests.Request.{Request}
+use Rattle.kern_base.specs.declared.outcomes.Finished.{Finished}
+use Rattle.kern_model.specs.State.{idle_task}
+use Rattle.kern_model.proofs.Tests.{choice_by, equal, at_most, and_first, and_second}
+use Rattle.kern_laws.specs.Consistent.{HasRequestTable}
+use Rattle.rv32_exec.specs.Registers.{Registers, read}
+use Rattle.rv32_exec.specs.Memory.{ram_start, ram_end}
+use Rattle.rv32_exec.specs.Exec.{Execution, exec}
+use Rattle.rv32_exec.specs.declared.Stepped.{Stepped}
+use Rattle.rv32_exec.specs.declared.Stepped.TheVariants.{Next, Call, Trap, Stored}
+use Rattle.machine_core.specs.Machine.{Machine, registers_at}
+use Rattle.machine_core.specs.Answers.{Change}
+use Rattle.machine_core.specs.Interrupts.{argument_words}
+use Rattle.machine_core.specs.Acts.{is_table, first_words, plain_request, table_request, has_table, request_of, acts, instructs, idles, starts_unit, works_in_units}
+use Rattle.machine_laws.specs.Whole.{HandsTable}
+
+-- the request of a call
+
+length-first_words : (memory : List ℕ) (address n : ℕ) → length (first_words memory address n) ≡ n
+length-first_words memory address zero = refl
+length-first_words memory address (suc n) = ap (λ i. suc i) (length-first_words memory (address + 16) n)
+
+-- as many objects as there are entries
+length-table : (memory : List ℕ) (address n : ℕ) (rest : List ℕ) → length (take n (first_words memory address n ++ rest)) ≡ n
+length-table memory address n rest =
+    ap (λ l. length l) (take_at (first_words memory address n) rest n (length-first_words memory address n)) ∙ length-first_words memory address n
+
+plain-table : (s : Service) (args : List ℕ) → HasRequestTable (plain_request s args)
+plain-table s args multi read = absurd (false≢true read)
+
+read-table : (s : Service) (args memory : List ℕ) → HasRequestTable (table_request s args memory)
+read-table s args memory =
+    let address = slice_index args 0 in
+    let n = slice_index args 1 in
+    choice_by (λ (r : Request). HasRequestTable r) (is_table address n) (record { service = s; args = args; ids = first_words memory address n ++ replicate (8 - n) 0; n_ids = n; table = true }) (plain_request s args)
+    (λ t _ _.
+    let some = nat_le 1 n in
+    let few = nat_le n 8 in
+    let aligned = address % 4 == 0 in
+    let from = nat_le ram_start address in
+    let to = nat_le (address + 16 * n) ram_end in
+    let a = and_second some (few && (aligned && (from && to))) t in
+    let b = and_second few (aligned && (from && to)) a in
+    let c = and_second aligned (from && to) b in
+    let long = length-table memory address n (replicate (8 - n) 0) in
+    let least = at_most 1 n (and_first some (few && (aligned && (from && to))) t) in
+    let most = at_most (address + 16 * n) ram_end (and_second from to c) in
+    record {
+      some = subst (λ i. 1 ≤ i) (sym long) least;
+      aligned = equal (address % 4) 0 (and_first aligned (from && to) b);
+      from = at_most ram_start address (and_first from to c);
+      to = subst (λ i. address + 16 * i ≤ ram_end) (sym long) most;
+    })
+    (λ _. plain-table s args)
+
+pub request-table : (served : Service → Bool) (regs : Registers) (memory : List ℕ) → HasRequestTable (request_of served regs memory)
+request-table served regs memory =
+    let s = service_of (read regs 17) in
+    let args = argument_words regs in
+    choice_by (λ (r : Request). HasRequestTable r) (has_table s && served s) (table_request s args memory) (plain_request s args) (λ _. read-table s args memory) (λ _. plain-table s args)
+
+-- what comes in hand where the current task acts
+
+module _ (served : Service → Bool) (x : ℕ) (m : Machine) (none : m.in_hand ≡ None) where
+  abbrev Hands : Change → Type 0
+  Hands c = HandsTable c.machine.in_hand
+
+  nothing : HandsTable m.in_hand
+  nothing = rw none tt
+
+  instructs-table : (did : Stepped) (e : Execution) → Hands (instructs served did x e m)
+  instructs-table Next e = nothing
+  instructs-table (Stored addr width value) e = nothing
+  instructs-table Call e = request-table served e.registers e.memory
+  instructs-table (Trap kind pc) e = nothing
+
+  pub acts-table : (o : Option Finished) → Hands (acts served x o m)
+  acts-table (Some f) = nothing
+  acts-table None =
+      let e = exec m.code (registers_at m x) m.memory in
+      let go = instructs served e.did x e m in
+      choice_by Hands (x == idle_task) (idles m) (if works_in_units x m.kernel then starts_unit x m else go)
+      (λ _. nothing)
+      (λ _. choice_by Hands (works_in_units x m.kernel) (starts_unit x m) go (λ _. tt) (λ _. instructs-table e.did e))

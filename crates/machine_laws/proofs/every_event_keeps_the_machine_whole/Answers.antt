@@ -1,0 +1,14 @@
+-- Every event keeps the machine whole.
+use Rattle.machine_laws.proofs.WholeNext.{KernelStaysWhole, whole-next}
+use Rattle.machine_laws.proofs.every_event_keeps_the_machine_whole.Goals as goal
+
+pub returns : goal.returns
+returns c =
+    let laws : KernelStaysWhole = record {
+      call = c.a_call_keeps_the_kernel_whole.ensures;
+      unit = c.a_unit_keeps_the_kernel_whole.ensures;
+      finish = c.a_finish_keeps_the_kernel_whole.ensures;
+      trap = c.a_trap_keeps_the_kernel_whole.ensures;
+      callback_end = c.the_end_of_a_callback_keeps_the_kernel_whole.ensures;
+    } in
+    whole-next laws
