@@ -135,6 +135,7 @@ impl Image {
     pub fn code(&self) -> &[u32]
         ensures value { result.now ≡ self.now.code }
         ensures valid { IsValidImage self.now }
+        ensures words { HasWords self.now }
     {
         &self.code
     }
@@ -143,6 +144,7 @@ impl Image {
     pub fn ram(&self) -> &[u32]
         ensures value { result.now ≡ self.now.ram }
         ensures valid { IsValidImage self.now }
+        ensures words { HasWords self.now }
     {
         &self.ram
     }

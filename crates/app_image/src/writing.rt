@@ -1,12 +1,12 @@
 // The binary image, written.
 
-ghost use Rattle.std.specs.Prelude.{◌≡◌, ◌+◌, ◌-◌, ◌*◌, ◌++◌, ◌<◌, ◌≤◌, ◌^◌, [], ◌∷◌, length, take, drop, OnOk, All};
+ghost use Rattle.std.specs.Prelude.{◌≡◌, ◌+◌, ◌-◌, ◌*◌, ◌++◌, ◌<◌, ◌≤◌, ◌^◌, [], ◌∷◌, length, take, drop, OnOk};
 ghost use Rattle.std.specs.List.{flat_map};
 ghost use Rattle.arrayvec.specs.ArrayVec.{array_vec_len};
 ghost use Rattle.outside.specs.Causes.{HasCause};
 ghost use Rattle.outside.specs.Written.{WritesPiece};
 ghost use Rattle.kern_base.specs.Checks.{kind_number};
-ghost use Rattle.app_image.specs.Layout.{half_bytes, word_bytes, words_bytes, task_bytes, object_bytes, vector_bytes, setting_values, header_bytes, layout, IsWord, HasWordFields, HasWords};
+ghost use Rattle.app_image.specs.Layout.{half_bytes, word_bytes, words_bytes, task_bytes, object_bytes, vector_bytes, setting_values, header_bytes, layout};
 ghost use Rattle.app_image.specs.RoundTrip.{ReadsBack};
 
 use crate::{Config, Image, ObjDef, TaskDef, VectorDef};
@@ -53,7 +53,6 @@ fn push_words(piece: &mut Piece, words: &[u32])
     requires { array_vec_len piece.old + 4 * length words.now ≤ 64 }
     ensures items { piece.new.items ≡ piece.old.items ++ words_bytes words.now }
     ensures len { array_vec_len piece.new ≡ array_vec_len piece.old + 4 * length words.now }
-    ensures words { All IsWord words.now }
 {
     for word in words {
         push_word(piece, *word);
@@ -86,8 +85,7 @@ fn task_piece(task: &TaskDef) -> Piece
 }
 
 fn object_piece(object: &ObjDef) -> Piece
-    ensures bytes { result.items ≡ object_bytes object.now }
-    ensures fields { HasWordFields object.now }
+    ensures { result.items ≡ object_bytes object.now }
 {
     let mut piece = Piece::new();
     push_bytes(&mut piece, &object.name.padded());
@@ -160,7 +158,6 @@ fn write_tasks<K: Sink>(tasks: &[TaskDef], sink: &mut K) -> Result<(), Failed>
 fn write_objects<K: Sink>(objects: &[ObjDef], sink: &mut K) -> Result<(), Failed>
     ensures bytes { WritesPiece (K.held sink.old) (K.held sink.new) result (flat_map object_bytes objects.now) }
     ensures cause { HasCause (K.faults sink.old) (K.faults sink.new) result }
-    ensures fields { OnOk result (All HasWordFields objects.now) }
 {
     for object in objects {
         let piece = object_piece(object);
@@ -195,7 +192,6 @@ fn words_piece(words: &[u32], at: usize, end: usize) -> Piece
 fn write_words<K: Sink>(words: &[u32], sink: &mut K) -> Result<(), Failed>
     ensures bytes { WritesPiece (K.held sink.old) (K.held sink.new) result (words_bytes words.now) }
     ensures cause { HasCause (K.faults sink.old) (K.faults sink.new) result }
-    ensures words { All IsWord words.now }
 {
     let mut at: usize = 0;
     while at < words.len() {

@@ -1,7 +1,7 @@
 use Rattle.std.proofs.Common.{◌++◌}
 use Rattle.std.specs.List.{flat_map}
 use Rattle.std.proofs.lemmas.Result.{err_from_is_err_and}
-use Rattle.app_image.specs.Layout.{words_bytes, setting_values, header_bytes, task_bytes, object_bytes, vector_bytes, layout, HasWords}
+use Rattle.app_image.specs.Layout.{words_bytes, setting_values, header_bytes, task_bytes, object_bytes, vector_bytes, layout}
 use Rattle.app_image.specs.RoundTrip.{ReadsBack}
 use Rattle.app_image.proofs.BackWhole.{ReadsBack-valid}
 use Rattle.app_image.proofs.Pieces.{on_ok, Wrote, wrote_none, wrote_next, wrote_part, wrote_last}
@@ -129,9 +129,4 @@ returns-clause-bytes g c =
 pub returns-clause-back : goal.returns-clause-back
 returns-clause-back g c =
     let image = c.args.image.now in
-    let words : HasWords image = record {
-      code = rw c.code.ensures.value at c.in_ok-write_words.ensures.words;
-      ram = rw c.ram.ensures.value at c.write_words-2.ensures.words;
-      fields = rw c.objects.ensures.value at c.in_ok-write_objects.ensures.fields;
-    } in
-    on_ok c.write_words-2.result (ReadsBack image) (ReadsBack-valid image c.tasks.ensures.valid words)
+    on_ok c.write_words-2.result (ReadsBack image) (ReadsBack-valid image c.tasks.ensures.valid c.code.ensures.words)

@@ -2,9 +2,8 @@ use Rattle.std.proofs.Common.{◌-◌, ◌≤◌, take, drop, subst, sym, arith}
 use Rattle.std.specs.Io.KnownBytes.{Appends}
 use Rattle.std.proofs.KnownBytes.{Appends-trans}
 use Rattle.std.proofs.lemmas.Result.{err_from_is_err_and}
-use Rattle.std.proofs.lemmas.List.Elements.{All-from_get_or}
 use Rattle.outside.proofs.Known.{AppendsPrefix-after}
-use Rattle.app_image.specs.Layout.{word_bytes, words_bytes, IsWord}
+use Rattle.app_image.specs.Layout.{word_bytes, words_bytes}
 use Rattle.app_image.proofs.Pieces.{flat_map-take, flat_map-part}
 use Rattle.app_image.proofs.writing.write_words.Goals as goal
 
@@ -21,10 +20,6 @@ returns-in_err-write-clause-bytes g c =
     (words_bytes (take at ws)) (words_bytes (take (end - at) (drop at ws))) (words_bytes (drop end ws)) (words_bytes ws)
     c.loop-at.invariant.written said (flat_map-part word_bytes ws at end order))
 
-pub returns-in_err-write-clause-words : goal.returns-in_err-write-clause-words
-returns-in_err-write-clause-words g c =
-    All-from_get_or IsWord c.args.words.now 0 (λ i l. (c.type_inv.words i).fits)
-
 -- the next words are written
 pub loop-at-preserved : goal.loop-at-preserved
 loop-at-preserved g c =
@@ -39,6 +34,3 @@ loop-at-preserved g c =
           (Appends-trans (g.K.Sink.held c.args.sink.now) (g.K.Sink.held c.loop-at.sink) (g.K.Sink.held c.write.new.self) (words_bytes (take at ws)) (words_bytes (take (end - at) (drop at ws))) c.loop-at.invariant.written said);
       later = omega (arith, c.in_ok-write.ensures.cause.later);
     }
-
-pub returns-clause-words : goal.returns-clause-words
-returns-clause-words g c = All-from_get_or IsWord c.args.words.now 0 (λ i l. (c.type_inv.words i).fits)
