@@ -3,7 +3,15 @@
 #![tactic(auto)]
 
 mod causes;
+mod entries;
+mod forms;
 mod lists;
+mod reading;
+mod words;
 
 pub use causes::{InjectCause, InjectError};
 pub use lists::{InjectList, Injection, Look, Moment, Seen};
+pub use reading::read;
+
+#[cfg(test)]
+mod tests;
