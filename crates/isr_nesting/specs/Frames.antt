@@ -1,5 +1,5 @@
 -- Interrupts that wait to enter, and the frames of interrupt code that stand.
-use Rattle.std.specs.Prelude.{ℕ, ◌∷◌, ◌++◌, [], Bool, true, false, List, map, replicate, if◌then◌else◌, ◌==◌, Option, Some, None}
+use Rattle.std.specs.Prelude.{ℕ, ◌∷◌, ◌++◌, [], Bool, true, false, List, map, replicate, if◌then◌else◌, ◌==◌}
 use Rattle.rv32_exec.specs.Registers.{Registers}
 use Rattle.app_image.specs.Image.{ImageRecord}
 use Rattle.app_image.specs.declared.records.VectorDef.{VectorDef}

@@ -1,3 +1,11 @@
 pub mod Frames
 pub mod Due
 pub mod Marks
+pub mod Least
+pub mod Tree
+pub mod FrameView
+pub mod Nest
+pub mod Keys
+pub mod RecordView
+pub mod Kept
+pub mod Order

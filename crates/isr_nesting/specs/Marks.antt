@@ -1,6 +1,6 @@
 -- The marks of a frame: the registers that hold what a post answered, until an instruction writes them. Under the deferred
 -- method that answer comes before the post is performed, so code that reads it may tell the two methods apart.
-use Rattle.std.specs.Prelude.{ℕ, Bool, true, false, List, [], ◌∷◌, take, Option, Some, None, if◌then◌else◌, ◌==◌}
+use Rattle.std.specs.Prelude.{ℕ, Bool, List, [], ◌∷◌, take, Option, Some, None, if◌then◌else◌, ◌==◌}
 use Rattle.std.specs.List.{list_any}
 use Rattle.kern_base.specs.declared.services.Service.{Service}
 use Rattle.kern_base.specs.Services.{service_of, argument_count}

@@ -1,0 +1,10 @@
+pub mod TreeLaws
+pub mod KeyLaws
+pub mod SplitLaws
+pub mod WaitLaws
+pub mod TaskLaws
+pub mod PrefixLaws
+pub mod PlaceLaws
+pub mod OrderLaws
+pub mod LoadLaws
+pub mod EnterLaws

@@ -1,0 +1,110 @@
+// The frames that stand.
+
+ghost use Rattle.std.specs.Prelude.{◌≡◌, ◌<◌, ◌≤◌, [], ◌∷◌, false, drop, slice_get, option_map};
+ghost use Rattle.isr_nesting.specs.Frames.{level_of, none_stands};
+ghost use Rattle.isr_nesting.specs.FrameView.{frame_record, mark_list, with_top};
+
+use crate::Frame;
+use arrayvec::ArrayVec;
+use rv32_exec::Regs;
+use std::marker::Model;
+
+// The frames, the top one last: each has a level above the one below it. Contracts see them with the top
+// one first.
+#[derive(Drop)]
+pub(crate) struct Stack {
+    frames: ArrayVec<Frame, 8>,
+}
+
+impl Model for Stack {
+    ghost use Rattle.std.specs.Prelude.{List};
+    ghost use Rattle.isr_nesting.specs.Frames.{FrameRecord};
+
+    ghost Value = { List FrameRecord };
+
+    ghost use Rattle.isr_nesting.specs.FrameView.{stack_of, Climbs};
+
+    ghost view = { λ a. stack_of a.frames.items };
+
+    ghost invariant = { λ a. Climbs (stack_of a.frames.items) };
+}
+
+impl Stack {
+    // No frame.
+    pub fn new() -> Stack
+        ensures { result ≡ [] }
+    {
+        Stack {
+            frames: ArrayVec::new(),
+        }
+    }
+
+    // Whether no frame stands.
+    pub fn is_empty(&self) -> bool
+        ensures { result ≡ none_stands self.now }
+    {
+        self.frames.is_empty()
+    }
+
+    // The level of the top frame, 1 to 7; 0 where none stands.
+    pub fn level(&self) -> u8
+        ensures value { result ≡ level_of self.now }
+        ensures low { result ≤ 7 }
+    {
+        match self.frames.last() {
+            Some(frame) => frame.level,
+            None => 0,
+        }
+    }
+
+    // The top frame.
+    pub fn top(&self) -> Option<&Frame>
+        ensures { option_map (λ f. frame_record f.now) result ≡ slice_get self.now 0 }
+    {
+        self.frames.last()
+    }
+
+    // A frame enters.
+    pub fn push(&mut self, frame: Frame)
+        requires above { level_of self.old < frame.level }
+        requires low { frame.level ≤ 7 }
+        ensures { self.new ≡ frame_record frame ∷ self.old }
+    {
+        self.frames.push(frame);
+    }
+
+    // The top frame leaves.
+    pub fn pop(&mut self)
+        requires { none_stands self.old ≡ false }
+        ensures { self.new ≡ drop 1 self.old }
+    {
+        self.frames.pop();
+    }
+
+    // Writes what the top frame has run to.
+    pub fn set_top(&mut self, regs: Regs, used: u32, marks: u8)
+        requires { none_stands self.old ≡ false }
+        ensures { self.new ≡ with_top (λ f. record f { registers = regs; used = used; marks = mark_list marks }) self.old }
+    {
+        let at = self.frames.len() - 1;
+        let frame = self.frames[at];
+        self.frames[at] = Frame {
+            vector: frame.vector,
+            level: frame.level,
+            regs,
+            used,
+            marks,
+        };
+    }
+
+    // Writes the marks of the top frame.
+    pub fn set_marks(&mut self, marks: u8)
+        requires { none_stands self.old ≡ false }
+        ensures { self.new ≡ with_top (λ f. record f { marks = mark_list marks }) self.old }
+    {
+        let at = self.frames.len() - 1;
+        let mut frame = self.frames[at];
+        frame.marks = marks;
+        self.frames[at] = frame;
+    }
+}
