@@ -4,6 +4,7 @@ pub mod DecisionLaws
 pub mod FinishFacts
 pub mod ListFacts
 pub mod ObjectFacts
+pub mod PostFacts
 pub mod ServedFacts
 pub mod StartLaws
 pub mod StartLists

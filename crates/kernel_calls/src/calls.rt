@@ -1,12 +1,13 @@
 // The services, one micro-step at a time.
 
-ghost use Rattle.std.specs.Prelude.{◌≡◌, ◌<◌, ◌+◌, ◌*◌, ◌≤◌, ℕ, true, false, [], ◌∷◌, ◌++◌, length, slice_get};
+ghost use Rattle.std.specs.Prelude.{◌≡◌, ◌<◌, ◌+◌, ◌*◌, ◌≤◌, ℕ, true, false, [], ◌∷◌, ◌++◌, None, length, slice_get};
 ghost use Rattle.kern_base.specs.declared.services.Service.TheVariants.{SemPend};
+ghost use Rattle.kern_base.specs.declared.outcomes.Outcome.TheVariants.{Answered};
 ghost use Rattle.kern_base.specs.declared.outcomes.Waiting.TheVariants.{Obj};
 ghost use Rattle.kern_model.specs.State.{task_at, list_at, is_ready, prio_of, waits_for_nothing, update_object, with_content, Count};
 ghost use Rattle.kern_model.specs.Effect.{wakes, wakes_all, chosen, blocked, waits_for, posted_result, fine, new_match, wakes_cost};
 ghost use Rattle.kern_model.specs.Micro.{wait_place};
-ghost use Rattle.kern_model.specs.Services.{effect, program_serves, cost};
+ghost use Rattle.kern_model.specs.Services.{effect, posted, program_serves, cost};
 ghost use Rattle.kern_model.specs.Valid.{IsValid, MayCall};
 ghost use Rattle.kernel_calls.specs.KernelRecord.{with_state};
 ghost use Rattle.kernel_calls.specs.ObjectView.{objects_in};
@@ -22,7 +23,10 @@ use crate::objects::{Content, Object};
 use crate::tasks::{answer_task, place_among, refusal, success, wait_for, wake_cost};
 use crate::work::{Progress, Work};
 use arrayvec::ArrayVec;
-use kern_base::{Decision, OsErr, Outcome, Prio, Request, Service, TaskId, Who};
+use kern_base::{Answer, Decision, OsErr, Outcome, Post, Prio, Request, Service, TaskId, Who};
+
+// Posts of interrupt code have no caller; the handler's number stands for it.
+const HANDLER: TaskId = TaskId(63);
 
 impl Kernel {
     /// Begins a whole step: a call of a task, or a post that the handler of deferred posts performs.
@@ -69,6 +73,27 @@ impl Kernel {
             return Progress::More;
         }
         Progress::Done(self.perform(work.caller, &work.request, work.head))
+    }
+
+    /// A post of interrupt code, at once and whole. `compared` is the priority whose list round robin
+    /// looks at, and the one that readied tasks are compared with.
+    pub fn post_now(&mut self, post: Post, compared: Prio) -> Answer
+        ensures answer { (posted program_serves post.service post.args compared.0 compared.0 self.old.state).outcome ≡ Answered result None }
+        ensures kernel { self.new ≡ with_state self.old (posted program_serves post.service post.args compared.0 compared.0 self.old.state).kernel }
+        ensures valid { IsValid self.new.state }
+    {
+        let args = post.args;
+        let request = Request {
+            service: post.service,
+            args,
+            ids: [0; 8],
+            n_ids: 0,
+            table: false,
+        };
+        match self.perform(HANDLER, &request, compared) {
+            Outcome::Answered(answer, _) => answer,
+            _ => unreachable!(),
+        }
     }
 
     // How many micro-steps a call takes.

@@ -13,3 +13,6 @@ pub use kern_base::{Outcome, UnitEnd};
 pub use kernels::Kernel;
 pub use tcb_pool::LEAVE;
 pub use work::{Progress, Work};
+
+#[cfg(test)]
+mod tests;

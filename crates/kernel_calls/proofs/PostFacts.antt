@@ -1,0 +1,69 @@
+-- A post of interrupt code is answered at once, and no table comes with its answer.
+use Rattle.std.specs.Prelude.{if◌then◌else◌, ◌==◌, ◌-◌, ◌+◌, ◌^◌}
+use Rattle.std.proofs.Common.{◌≡◌, ℕ, List, [], ◌∷◌, refl, Bool, true, false, Option, Some, None}
+use Rattle.std.proofs.lemmas.Bool.{false≢true}
+use Rattle.kern_base.specs.declared.services.Service.{Service}
+use Rattle.kern_base.specs.declared.services.Service.TheVariants.{SemPost, SemPend}
+use Rattle.kern_base.specs.declared.requests.Request.{Request}
+use Rattle.kern_base.specs.declared.errors.OsErr.{OsErr}
+use Rattle.kern_base.specs.declared.errors.OsErr.TheVariants.{SemOverflow, CallUnknown}
+use Rattle.kern_base.specs.declared.outcomes.Answer.{Answer}
+use Rattle.kern_base.specs.declared.outcomes.Finished.{Finished}
+use Rattle.kern_base.specs.declared.outcomes.Outcome.{Outcome}
+use Rattle.kern_base.specs.declared.outcomes.Outcome.TheVariants.{Answered, Waits, Gone, Quiet}
+use Rattle.kern_base.specs.Checks.{is_post, IsPost}
+use Rattle.kern_model.specs.State.{Kernel, Content, Count, Messages, Bits, Held, Timed, list_at, object_at, with_content}
+use Rattle.kern_model.specs.Effect.{Effect, refused, done, fine}
+use Rattle.kern_model.specs.Checks.{argument, call_error}
+use Rattle.kern_model.specs.Semaphores.{sem_post_to, sem_post}
+use Rattle.kern_model.specs.Services.{posted, program_serves, after_checks, row_of}
+use Rattle.kern_model.proofs.LeadLaws.{choice}
+
+-- an answer without a table
+abbrev pub IsPlainAnswer : Outcome → Type 0
+IsPlainAnswer (Answered a taken) = taken ≡ None
+IsPlainAnswer outcome = ⊥
+
+abbrev Plain : Effect → Type 0
+Plain e = IsPlainAnswer e.outcome
+
+plain-sem_post_to : (xs : List ℕ) (n o opt h : ℕ) (k : Kernel) → Plain (sem_post_to xs n o opt h k)
+plain-sem_post_to [] n o opt h k = choice Plain (n == 2 ^ 32 - 1) (refused k SemOverflow) (done (with_content k o (Count (n + 1))) (fine (n + 1))) refl refl
+plain-sem_post_to (x ∷ xs) n o opt h k = refl
+
+plain-sem_post : (c : Content) (r : Request) (h : ℕ) (k : Kernel) → Plain (sem_post c r h k)
+plain-sem_post (Count n) r h k = plain-sem_post_to (list_at k.pend (argument r 0)) n (argument r 0) (argument r 1) h k
+plain-sem_post (Messages limit ms) r h k = refl
+plain-sem_post (Bits bits) r h k = refl
+plain-sem_post (Held owner nesting) r h k = refl
+plain-sem_post (Timed t) r h k = refl
+
+plain-row_of : (s : Service) (r : Request) (x c h : ℕ) (k : Kernel) → program_serves s ≡ true → is_post s ≡ true → Plain (row_of s r x c h k)
+plain-row_of SemPost r x c h k e p = plain-sem_post (object_at k (argument r 0)).content r h k
+plain-row_of SemPend r x c h k e p = absurd (false≢true p)
+plain-row_of _ r x c h k e p = absurd (false≢true e)
+
+plain-checked : (o : Option OsErr) (r : Request) (x c h : ℕ) (k : Kernel) → program_serves r.service ≡ true → is_post r.service ≡ true → Plain (after_checks o r x c h k)
+plain-checked (Some err) r x c h k e p = refl
+plain-checked None r x c h k e p = plain-row_of r.service r x c h k e p
+
+plain-served : (b : Bool) (r : Request) (x c h : ℕ) (k : Kernel) → program_serves r.service ≡ b → is_post r.service ≡ true → Plain (if b then after_checks (call_error r x k) r x c h k else refused k CallUnknown)
+plain-served true r x c h k e p = plain-checked (call_error r x k) r x c h k e p
+plain-served false r x c h k e p = refl
+
+pub plain-posted : (s : Service) (args : List ℕ) (c h : ℕ) (k : Kernel) → IsPost s → Plain (posted program_serves s args c h k)
+plain-posted s args c h k p = plain-served (program_serves s) _ 63 c h k refl p
+
+-- what is answered is all of the outcome
+pub whole-answer : (o : Outcome) (a : Answer) (taken : Option Finished) → IsPlainAnswer o → o ≡ Answered a taken → o ≡ Answered a None
+whole-answer (Answered b given) a taken p e = cc
+whole-answer Waits a taken p e = absurd p
+whole-answer Gone a taken p e = absurd p
+whole-answer (Quiet end) a taken p e = absurd p
+
+-- and something is answered
+pub some-answer : (o : Outcome) → IsPlainAnswer o → ((a : Answer) (taken : Option Finished) → o ≡ Answered a taken → ⊥) → ⊥
+some-answer (Answered a taken) p d = d a taken refl
+some-answer Waits p d = p
+some-answer Gone p d = p
+some-answer (Quiet end) p d = p
