@@ -11,7 +11,7 @@ Each line of LIST is a theorem, of these words with one blank between them:
 
 A line that begins with `#` is a comment on the theorem behind it. NAME is the theorem's name. IMAGE is a file with a binary image of version 2 (`ucos3 image` writes one), INJECTIONS a file
 with lines as they stand behind `.inject`, without a fault, and LINES a file with the lines that the command writes. FILE.antt
-goes into the proofs/ of machine_core, or of a crate that stands on it; where the lines are others, the check refuses the
+goes into the proofs/ of machine_model, or of a crate that stands on it; where the lines are others, the check refuses the
 theorem. Runs of up to some thousand raw steps are cheap. The gate does not run this.
 """
 import re
@@ -45,8 +45,8 @@ use Rattle.inject_list.specs.declared.lists.Injection.{Injection}
 use Rattle.inject_list.specs.declared.lists.Look.{Look}
 use Rattle.inject_list.specs.declared.lists.Moment.TheVariants.{Task, Step}
 use Rattle.inject_list.specs.declared.lists.Seen.TheVariants.{Obj, Ready}
-use Rattle.machine_core.specs.Run.{Run, run, run_text, history}
-use Rattle.machine_core.specs.Premises.{premise_lines, is_broken}
+use Rattle.machine_model.specs.Run.{Run, run, run_text, history}
+use Rattle.machine_model.specs.Premises.{premise_lines, is_broken}
 
 -- what both runs print, and whether a premise is broken
 abbrev both_text : ImageRecord → Run → Run → List ℕ × Bool

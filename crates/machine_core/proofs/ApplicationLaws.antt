@@ -5,8 +5,8 @@ use Rattle.kern_base.specs.declared.services.Service.{Service}
 use Rattle.kern_model.specs.State.{Kernel, tick_task, timer_task, idle_task}
 use Rattle.kern_model.specs.Stop.{stopped}
 use Rattle.rv32_exec.specs.Exec.{exec}
-use Rattle.machine_core.specs.Machine.{Machine, registers_at}
-use Rattle.machine_core.specs.Acts.{acts, instructs, works_in_units, after_instruction, trapped}
+use Rattle.machine_model.specs.Machine.{Machine, registers_at}
+use Rattle.machine_model.specs.Acts.{acts, instructs, works_in_units, after_instruction, trapped}
 
 -- its number is another than that of a later task
 other : (x n : ℕ) → x < n → (x == n) ≡ false

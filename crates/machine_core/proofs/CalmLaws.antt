@@ -2,9 +2,9 @@
 use Rattle.std.specs.Prelude.{if◌then◌else◌, ◌==◌}
 use Rattle.std.proofs.Common.{◌≡◌, ℕ, ◌+◌, ◌-◌, ◌*◌, Bool, true, false, [], Option, Some, None, refl, ap, ◌∙◌, arith}
 use Rattle.kern_base.specs.declared.kinds.Method.{Method}
-use Rattle.machine_core.specs.Machine.{Machine, WholeStep}
-use Rattle.machine_core.specs.Rules.{Rule, Begins, MicroStep, TaskActs, rule, rule_in_hand, rule_of_post}
-use Rattle.machine_core.specs.Bound.{events_left, whole_step_events, first_event, steps_taken}
+use Rattle.machine_model.specs.Machine.{Machine, WholeStep}
+use Rattle.machine_model.specs.Rules.{Rule, Begins, MicroStep, TaskActs, rule, rule_in_hand, rule_of_post}
+use Rattle.machine_model.specs.Bound.{events_left, whole_step_events, first_event, steps_taken}
 use Rattle.machine_core.specs.Valid.{IsCalm}
 
 -- a micro-step of the whole step in hand, or else the current task acts

@@ -6,16 +6,16 @@ use Rattle.kern_base.specs.declared.kinds.Method.TheVariants.{Direct}
 use Rattle.kern_model.specs.Services.{program_serves}
 use Rattle.app_image.specs.Image.{ImageRecord}
 use Rattle.inject_list.specs.Lists.{ListRecord}
-use Rattle.machine_core.specs.Machine.{Machine, start}
-use Rattle.machine_core.specs.Rules.{next}
-use Rattle.machine_core.specs.Bound.{events_left, most_micro_steps}
-use Rattle.machine_core.specs.Run.{Run, run_on, run}
+use Rattle.machine_model.specs.Machine.{Machine, start}
+use Rattle.machine_model.specs.Rules.{next}
+use Rattle.machine_model.specs.Bound.{events_left, most_micro_steps}
+use Rattle.machine_model.specs.Run.{Run, run_on, run}
 use Rattle.machine_core.specs.Valid.{IsSound, most_task_steps}
-use Rattle.machine_core.proofs.CountLaws.{t-next}
+use Rattle.machine_model.proofs.CountLaws.{t-next}
 use Rattle.machine_core.proofs.CalmLaws.{left-calm}
 use Rattle.machine_core.proofs.StepLaws.{few-taken, events_left-next, in_hand-next}
 use Rattle.machine_core.proofs.SoundLaws.{sound-next}
-use Rattle.machine_core.proofs.RunLaws.{run_on-more, run_on-end}
+use Rattle.machine_model.proofs.RunLaws.{run_on-more, run_on-end}
 
 -- the machine at the end of a run is sound, has done n task steps, and has nothing in hand
 pub record Ends (n : ℕ) (m : Machine) : Type 0 where

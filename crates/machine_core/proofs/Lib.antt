@@ -1,8 +1,5 @@
-pub mod Rows
-pub mod CountLaws
 pub mod CalmLaws
 pub mod ApplicationLaws
-pub mod RunLaws
 pub mod StepLaws
 pub mod PickLaws
 pub mod StillLaws

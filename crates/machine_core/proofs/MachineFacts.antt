@@ -14,16 +14,16 @@ use Rattle.kernel_calls.specs.KernelRecord.{KernelRecord, with_state}
 use Rattle.kernel_calls.specs.Works.{WorkRecord, effect_of, stepped}
 use Rattle.machine_core.specs.declared.machine.InHand.{InHand}
 use Rattle.machine_core.specs.declared.machine.Machine.TheInside.{Inside}
-use Rattle.machine_core.specs.Machine.{Machine}
-use Rattle.machine_core.specs.Answers.{with_table}
-use Rattle.machine_core.specs.Settling.{settled_task}
-use Rattle.machine_core.specs.Steps.{advances, call_ends}
-use Rattle.machine_core.specs.Acts.{acts}
-use Rattle.machine_core.specs.Rules.{Rule, TaskActs, done, rule_in_hand}
+use Rattle.machine_model.specs.Machine.{Machine}
+use Rattle.machine_model.specs.Answers.{with_table}
+use Rattle.machine_model.specs.Settling.{settled_task}
+use Rattle.machine_model.specs.Steps.{advances, call_ends}
+use Rattle.machine_model.specs.Acts.{acts}
+use Rattle.machine_model.specs.Rules.{Rule, TaskActs, done, rule_in_hand}
 use Rattle.machine_core.specs.AnswerView.{ended_kernel, finished_by, finished_kernel, HasNoTable}
 use Rattle.machine_core.specs.MachineView.{machine_of, step_of, hand_of, IsKept, IsBegunHere, IsBegunOn}
 use Rattle.machine_core.specs.Valid.{IsSound, IsCalm, IsCallUnderWay, most_task_steps}
-use Rattle.machine_core.proofs.CountLaws.{counts-done}
+use Rattle.machine_model.proofs.CountLaws.{counts-done}
 use Rattle.machine_core.proofs.CalmLaws.{calm_rule, rule-in_hand}
 use Rattle.machine_core.proofs.OutcomeLaws.{plain-effect}
 use Rattle.machine_core.proofs.SoundLaws.{sound-advances, sound-acts, sound-raw}

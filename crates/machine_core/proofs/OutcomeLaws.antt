@@ -14,7 +14,7 @@ use Rattle.kern_model.specs.Checks.{argument, call_error}
 use Rattle.kern_model.specs.Semaphores.{sem_post_to, sem_post, sem_pend}
 use Rattle.kern_model.specs.Services.{effect, program_serves, after_checks, row_of}
 use Rattle.machine_core.specs.AnswerView.{HasNoTable}
-use Rattle.machine_core.proofs.CountLaws.{choice}
+use Rattle.machine_model.proofs.CountLaws.{choice}
 
 abbrev Plain : Effect → Type 0
 Plain e = HasNoTable e.outcome

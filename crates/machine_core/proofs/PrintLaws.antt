@@ -21,18 +21,18 @@ use Rattle.tcb_pool.specs.declared.tables.TheConstants.{LEAVE}
 use Rattle.inject_list.specs.declared.lists.Look.{Look}
 use Rattle.isr_nesting.specs.Frames.{FrameRecord}
 use Rattle.isr_nesting.specs.Marks.{marks_after, next_instruction}
-use Rattle.machine_core.specs.declared.events.How.TheVariants as how
-use Rattle.machine_core.specs.declared.events.What.TheVariants.{Quiet}
-use Rattle.machine_core.specs.Machine.{Machine, Work, CallOf, UnitOf, TakeOf, WholeStep, registers_at, effect_of}
-use Rattle.machine_core.specs.Answers.{Change}
-use Rattle.machine_core.specs.Interrupts.{leaves, frame_goes_on, frame_calls, frame_posts, frame_refused, frame_did, interrupt_error, argument_words, ran}
-use Rattle.machine_core.specs.Steps.{call_ends, unit_ends, unit_line, ends, advances}
-use Rattle.machine_core.specs.Acts.{acts, instructs, idles, starts_unit, works_in_units}
-use Rattle.machine_core.specs.Looks.{looks}
-use Rattle.machine_core.specs.Rules.{Rule, Begins, Looks, Enters, FrameLimit, FrameRuns, MicroStep, TakeBegins, TaskActs, done, next}
-use Rattle.machine_core.specs.Text.{IsPrintable}
+use Rattle.machine_model.specs.declared.events.How.TheVariants as how
+use Rattle.machine_model.specs.declared.events.What.TheVariants.{Quiet}
+use Rattle.machine_model.specs.Machine.{Machine, Work, CallOf, UnitOf, TakeOf, WholeStep, registers_at, effect_of}
+use Rattle.machine_model.specs.Answers.{Change}
+use Rattle.machine_model.specs.Interrupts.{leaves, frame_goes_on, frame_calls, frame_posts, frame_refused, frame_did, interrupt_error, argument_words, ran}
+use Rattle.machine_model.specs.Steps.{call_ends, unit_ends, unit_line, ends, advances}
+use Rattle.machine_model.specs.Acts.{acts, instructs, idles, starts_unit, works_in_units}
+use Rattle.machine_model.specs.Looks.{looks}
+use Rattle.machine_model.specs.Rules.{Rule, Begins, Looks, Enters, FrameLimit, FrameRuns, MicroStep, TakeBegins, TaskActs, done, next}
+use Rattle.machine_model.specs.Text.{IsPrintable}
 use Rattle.machine_core.specs.Valid.{IsCalm}
-use Rattle.machine_core.proofs.CountLaws.{choice}
+use Rattle.machine_model.proofs.CountLaws.{choice}
 use Rattle.machine_core.proofs.CalmLaws.{calm_rule}
 use Rattle.machine_core.proofs.StepLaws.{next-calm}
 

@@ -18,15 +18,15 @@ use Rattle.rv32_exec.specs.Exec.{Execution, exec}
 use Rattle.rv32_exec.specs.declared.TrapKind.{TrapKind}
 use Rattle.rv32_exec.specs.declared.Stepped.{Stepped}
 use Rattle.rv32_exec.specs.declared.Stepped.TheVariants.{Next, Call, Trap, Stored}
-use Rattle.machine_core.specs.declared.events.What.{What}
-use Rattle.machine_core.specs.declared.events.What.TheVariants.{Quiet, St}
-use Rattle.machine_core.specs.Machine.{Machine, Work, CallOf, UnitOf, TakeOf, WholeStep, registers_at, after_step}
-use Rattle.machine_core.specs.Answers.{Change, with_answer, with_table}
-use Rattle.machine_core.specs.Settling.{settled, settled_task}
-use Rattle.machine_core.specs.Steps.{call_ends, advances, free}
-use Rattle.machine_core.specs.Acts.{acts, calls, instructs, runs, traps, idles, after_instruction, trapped, request_of}
-use Rattle.machine_core.specs.Rules.{Begins, MicroStep, TaskActs, raw, next, done}
-use Rattle.machine_core.specs.Bound.{steps_taken, most_micro_steps}
+use Rattle.machine_model.specs.declared.events.What.{What}
+use Rattle.machine_model.specs.declared.events.What.TheVariants.{Quiet, St}
+use Rattle.machine_model.specs.Machine.{Machine, Work, CallOf, UnitOf, TakeOf, WholeStep, registers_at, after_step}
+use Rattle.machine_model.specs.Answers.{Change, with_answer, with_table}
+use Rattle.machine_model.specs.Settling.{settled, settled_task}
+use Rattle.machine_model.specs.Steps.{call_ends, advances, free}
+use Rattle.machine_model.specs.Acts.{acts, calls, instructs, runs, traps, idles, after_instruction, trapped, request_of}
+use Rattle.machine_model.specs.Rules.{Begins, MicroStep, TaskActs, raw, next, done}
+use Rattle.machine_model.specs.Bound.{steps_taken, most_micro_steps}
 use Rattle.machine_core.specs.Valid.{IsStill, IsCalm, IsUnderWay, IsCallUnderWay, Acts, IsSound, most_task_steps}
 use Rattle.machine_core.proofs.CalmLaws.{calm_rule}
 use Rattle.machine_core.proofs.StepLaws.{Moves, calm-aside, acts-moves, advances-moves, next-calm}

@@ -11,15 +11,15 @@ use Rattle.kern_model.specs.Services.{cost}
 use Rattle.rv32_exec.specs.Exec.{Execution, exec}
 use Rattle.rv32_exec.specs.declared.Stepped.{Stepped}
 use Rattle.rv32_exec.specs.declared.Stepped.TheVariants.{Next, Call, Trap, Stored}
-use Rattle.machine_core.specs.declared.events.What.TheVariants.{Quiet}
-use Rattle.machine_core.specs.Machine.{Machine, Work, CallOf, UnitOf, TakeOf, WholeStep, registers_at, effect_of}
-use Rattle.machine_core.specs.Answers.{Change}
-use Rattle.machine_core.specs.Steps.{call_ends, advances}
-use Rattle.machine_core.specs.Acts.{acts, instructs, idles, starts_unit, works_in_units}
-use Rattle.machine_core.specs.Rules.{Rule, Begins, MicroStep, TaskActs, rule, done, next}
-use Rattle.machine_core.specs.Bound.{events_left, steps_taken, most_micro_steps, whole_step_events}
+use Rattle.machine_model.specs.declared.events.What.TheVariants.{Quiet}
+use Rattle.machine_model.specs.Machine.{Machine, Work, CallOf, UnitOf, TakeOf, WholeStep, registers_at, effect_of}
+use Rattle.machine_model.specs.Answers.{Change}
+use Rattle.machine_model.specs.Steps.{call_ends, advances}
+use Rattle.machine_model.specs.Acts.{acts, instructs, idles, starts_unit, works_in_units}
+use Rattle.machine_model.specs.Rules.{Rule, Begins, MicroStep, TaskActs, rule, done, next}
+use Rattle.machine_model.specs.Bound.{events_left, steps_taken, most_micro_steps, whole_step_events}
 use Rattle.machine_core.specs.Valid.{Acts, IsUnderWay, IsCalm}
-use Rattle.machine_core.proofs.CountLaws.{choice}
+use Rattle.machine_model.proofs.CountLaws.{choice}
 use Rattle.machine_core.proofs.CalmLaws.{calm_rule, rule-calm, left-calm}
 
 -- frames, posts, interrupts and looks stay

@@ -15,7 +15,7 @@ use Rattle.kern_model.specs.Checks.{argument, call_error}
 use Rattle.kern_model.specs.Semaphores.{sem_post_to, sem_post, sem_pend}
 use Rattle.kern_model.specs.Services.{effect, program_serves, after_checks, row_of}
 use Rattle.kern_model.specs.Finish.{finished, finished_with}
-use Rattle.machine_core.proofs.CountLaws.{choice}
+use Rattle.machine_model.proofs.CountLaws.{choice}
 
 -- the signals, the work of the timer task and the lock are the same
 pub record SameBehind (k j : Kernel) : Type 0 where

@@ -9,9 +9,9 @@ use Rattle.kern_model.specs.State.{task_at}
 use Rattle.kern_model.specs.Finish.{finished}
 use Rattle.tcb_pool.specs.TaskView.{no_registers}
 use Rattle.kernel_calls.specs.KernelRecord.{KernelRecord, with_state}
-use Rattle.machine_core.specs.declared.events.What.{What}
-use Rattle.machine_core.specs.declared.events.What.TheVariants.{Quiet, Wait, Gone as GoneLine}
-use Rattle.machine_core.specs.Answers.{with_answer, returned, task_id, entries}
+use Rattle.machine_model.specs.declared.events.What.{What}
+use Rattle.machine_model.specs.declared.events.What.TheVariants.{Quiet, Wait, Gone as GoneLine}
+use Rattle.machine_model.specs.Answers.{with_answer, returned, task_id, entries}
 
 -- the registers of x have the answer
 abbrev pub answered_kernel : KernelRecord → ℕ → Service → Answer → KernelRecord

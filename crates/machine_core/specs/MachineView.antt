@@ -4,7 +4,7 @@ use Rattle.kern_model.specs.State.{Kernel}
 use Rattle.kernel_calls.specs.Works.{WorkRecord, IsBegun}
 use Rattle.machine_core.specs.declared.machine.InHand.{InHand}
 use Rattle.machine_core.specs.declared.machine.Machine.TheInside.{Inside}
-use Rattle.machine_core.specs.Machine.{Machine, WholeStep, CallOf}
+use Rattle.machine_model.specs.Machine.{Machine, WholeStep, CallOf}
 use Rattle.machine_core.specs.Valid.{IsSound}
 
 -- the whole step of a work: a call

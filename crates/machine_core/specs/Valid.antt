@@ -4,8 +4,8 @@ use Rattle.kern_base.specs.declared.requests.Request.{Request}
 use Rattle.kern_model.specs.State.{Kernel, pick}
 use Rattle.kern_model.specs.Valid.{IsValid, MayCall}
 use Rattle.kern_model.specs.Services.{effect, program_serves, cost}
-use Rattle.machine_core.specs.Machine.{Machine, WholeStep, Work, CallOf, UnitOf, TakeOf}
-use Rattle.machine_core.specs.Bound.{most_micro_steps, steps_taken}
+use Rattle.machine_model.specs.Machine.{Machine, WholeStep, Work, CallOf, UnitOf, TakeOf}
+use Rattle.machine_model.specs.Bound.{most_micro_steps, steps_taken}
 
 -- how many task steps a machine may do
 abbrev pub most_task_steps : ℕ

@@ -7,8 +7,8 @@ ghost use Rattle.kern_model.specs.Finish.{finished};
 ghost use Rattle.kern_model.specs.Services.{program_serves};
 ghost use Rattle.tcb_pool.specs.TaskView.{no_registers};
 ghost use Rattle.rv32_exec.specs.Registers.{read};
-ghost use Rattle.machine_core.specs.Answers.{with_answer, with_table, returned, size_of, size_or_zero};
-ghost use Rattle.machine_core.specs.Acts.{request_of, called};
+ghost use Rattle.machine_model.specs.Answers.{with_answer, with_table, returned, size_of, size_or_zero};
+ghost use Rattle.machine_model.specs.Acts.{request_of, called};
 ghost use Rattle.machine_core.specs.AnswerView.{answered_kernel, finished_kernel, finished_line};
 
 use crate::What;

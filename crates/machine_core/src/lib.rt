@@ -3,8 +3,7 @@
 #![tactic(auto)]
 
 mod answers;
-mod events;
 mod machine;
 
-pub use events::{Event, How, What};
 pub use machine::Machine;
+pub use machine_model::{Event, How, What};

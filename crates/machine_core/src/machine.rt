@@ -6,13 +6,13 @@ ghost use Rattle.kern_model.specs.State.{task_at, is_ready};
 ghost use Rattle.kern_model.specs.Services.{program_serves};
 ghost use Rattle.inject_list.specs.Lists.{no_injections};
 ghost use Rattle.kernel_calls.specs.KernelRecord.{KernelRecord};
-ghost use Rattle.machine_core.specs.Machine.{start};
-ghost use Rattle.machine_core.specs.Settling.{settled_task};
-ghost use Rattle.machine_core.specs.Acts.{acts};
-ghost use Rattle.machine_core.specs.Rules.{next, done, rule_in_hand, switch_of, TaskActs};
+ghost use Rattle.machine_model.specs.Machine.{start};
+ghost use Rattle.machine_model.specs.Settling.{settled_task};
+ghost use Rattle.machine_model.specs.Acts.{acts};
+ghost use Rattle.machine_model.specs.Rules.{next, done, rule_in_hand, switch_of, TaskActs};
 ghost use Rattle.machine_core.specs.AnswerView.{ended_kernel, ended_line, HasNoTable};
-ghost use Rattle.machine_core.specs.Bound.{events_left, most_micro_steps, steps_taken};
-ghost use Rattle.machine_core.specs.Text.{IsPrintable};
+ghost use Rattle.machine_model.specs.Bound.{events_left, most_micro_steps, steps_taken};
+ghost use Rattle.machine_model.specs.Text.{IsPrintable};
 ghost use Rattle.machine_core.specs.Valid.{most_task_steps, IsSound};
 
 use crate::answers::{answer, call_line, finish, request_in};
@@ -50,7 +50,7 @@ pub struct Machine {
 }
 
 impl Model for Machine {
-    ghost use Rattle.machine_core.specs.Machine.{Machine as State};
+    ghost use Rattle.machine_model.specs.Machine.{Machine as State};
 
     ghost Value = { State };
 

@@ -14,10 +14,10 @@ use Rattle.kern_model.proofs.ValidTasks.{valid-callback_ended}
 use Rattle.kern_model.proofs.Tests.{choice_by, equal, unequal, and_first, and_second, or_either, or_first, or_second, not_true, not_false}
 use Rattle.rv32_exec.specs.Registers.{Registers}
 use Rattle.tcb_pool.specs.declared.tables.TheConstants.{LEAVE}
-use Rattle.machine_core.specs.Machine.{Machine, CallOf, UnitOf}
-use Rattle.machine_core.specs.Settling.{settled}
-use Rattle.machine_core.specs.Steps.{begins}
-use Rattle.machine_core.specs.Acts.{acts, works_in_units, after_instruction, trapped}
+use Rattle.machine_model.specs.Machine.{Machine, CallOf, UnitOf}
+use Rattle.machine_model.specs.Settling.{settled}
+use Rattle.machine_model.specs.Steps.{begins}
+use Rattle.machine_model.specs.Acts.{acts, works_in_units, after_instruction, trapped}
 use Rattle.machine_laws.specs.Valid.{HoldsLock, IsAtRest}
 use Rattle.machine_laws.proofs.StepCases.{Instructs, after-acts}
 use Rattle.machine_laws.proofs.CallerLaws.{calm-finished, ready-finished}

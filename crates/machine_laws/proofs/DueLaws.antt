@@ -11,7 +11,7 @@ use Rattle.inject_list.specs.declared.lists.Moment.{Moment}
 use Rattle.inject_list.specs.declared.lists.Moment.TheVariants.{Task, Step}
 use Rattle.isr_nesting.specs.Frames.{FrameRecord, Interrupt, level_of, none_stands}
 use Rattle.isr_nesting.specs.Due.{Place, due, due_from, lets_in, highest, highest_from, taken_at, is_step}
-use Rattle.machine_core.specs.Looks.{look_at, without_look}
+use Rattle.machine_model.specs.Looks.{look_at, without_look}
 
 -- a look that is printed is gone
 pub length-without_look : (s : ℕ) (ls : List Look) (l : Look) → look_at s ls ≡ Some l → length ls ≡ 1 + length (without_look s ls)

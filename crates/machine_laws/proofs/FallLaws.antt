@@ -17,13 +17,13 @@ use Rattle.app_image.specs.declared.settings.Config.{Config}
 use Rattle.deferred_queue.specs.Queue.{Queued, queued, front, without_front}
 use Rattle.isr_nesting.specs.Frames.{FrameRecord, none_stands}
 use Rattle.isr_nesting.specs.Due.{taken_at}
-use Rattle.machine_core.specs.Machine.{Machine, WholeStep, Work, CallOf, UnitOf, TakeOf, effect_of}
-use Rattle.machine_core.specs.Settling.{settled, is_free}
-use Rattle.machine_core.specs.Bound.{events_left, first_event, steps_taken, most_micro_steps, whole_step_events, frame_events, frames_events, interrupt_events}
-use Rattle.machine_core.specs.Interrupts.{without_top, frame_runs, posting, checked_post, queues}
-use Rattle.machine_core.specs.Steps.{advances}
-use Rattle.machine_core.specs.Acts.{acts}
-use Rattle.machine_core.specs.Rules.{Rule, Begins, Looks, Enters, FrameLimit, FrameRuns, MicroStep, TakeBegins, TaskActs, rule, done, next}
+use Rattle.machine_model.specs.Machine.{Machine, WholeStep, Work, CallOf, UnitOf, TakeOf, effect_of}
+use Rattle.machine_model.specs.Settling.{settled, is_free}
+use Rattle.machine_model.specs.Bound.{events_left, first_event, steps_taken, most_micro_steps, whole_step_events, frame_events, frames_events, interrupt_events}
+use Rattle.machine_model.specs.Interrupts.{without_top, frame_runs, posting, checked_post, queues}
+use Rattle.machine_model.specs.Steps.{advances}
+use Rattle.machine_model.specs.Acts.{acts}
+use Rattle.machine_model.specs.Rules.{Rule, Begins, Looks, Enters, FrameLimit, FrameRuns, MicroStep, TakeBegins, TaskActs, rule, done, next}
 use Rattle.machine_laws.specs.RuleTable.{Applies}
 use Rattle.machine_laws.specs.Valid.{IsBegun, IsQueue}
 use Rattle.machine_laws.proofs.RuleFacts.{applies}

@@ -8,10 +8,10 @@ use Rattle.kern_model.proofs.Tests.{unequal}
 use Rattle.app_image.specs.Image.{ImageRecord, IsValidImage}
 use Rattle.inject_list.specs.Lists.{ListRecord, IsValidList, last_moment, most_entries}
 use Rattle.isr_nesting.specs.Frames.{interrupt_of}
-use Rattle.machine_core.specs.Machine.{Machine, start}
-use Rattle.machine_core.specs.Bound.{events_left, interrupt_events}
-use Rattle.machine_core.specs.Rules.{Rule, Begins, Looks, Enters, FrameLimit, FrameRuns, MicroStep, TakeBegins, TaskActs, rule, raw, next}
-use Rattle.machine_core.specs.Run.{Run, run_on, run}
+use Rattle.machine_model.specs.Machine.{Machine, start}
+use Rattle.machine_model.specs.Bound.{events_left, interrupt_events}
+use Rattle.machine_model.specs.Rules.{Rule, Begins, Looks, Enters, FrameLimit, FrameRuns, MicroStep, TakeBegins, TaskActs, rule, raw, next}
+use Rattle.machine_model.specs.Run.{Run, run_on, run}
 use Rattle.app_image.specs.Layout.{HasWords}
 use Rattle.machine_laws.proofs.RestLaws.{V}
 use Rattle.machine_laws.proofs.FallLaws.{events_left-next}

@@ -18,10 +18,10 @@ use Rattle.app_image.specs.declared.settings.Config.{Config}
 use Rattle.deferred_queue.specs.Queue.{Queued, queued, front}
 use Rattle.isr_nesting.specs.Frames.{FrameRecord, Interrupt, level_of, none_stands, entered}
 use Rattle.isr_nesting.specs.Due.{Place}
-use Rattle.machine_core.specs.Machine.{Machine, WholeStep, Work, CallOf, UnitOf, TakeOf}
-use Rattle.machine_core.specs.Settling.{is_free, settled}
-use Rattle.machine_core.specs.Interrupts.{enters, without_top, frame_runs, posting, checked_post, queues}
-use Rattle.machine_core.specs.Rules.{is_masked, is_quiet, may_take}
+use Rattle.machine_model.specs.Machine.{Machine, WholeStep, Work, CallOf, UnitOf, TakeOf}
+use Rattle.machine_model.specs.Settling.{is_free, settled}
+use Rattle.machine_model.specs.Interrupts.{enters, without_top, frame_runs, posting, checked_post, queues}
+use Rattle.machine_model.specs.Rules.{is_masked, is_quiet, may_take}
 use Rattle.machine_laws.specs.Valid.{AreStacked, IsQueue, Fits, NoDirectFrame, IsAtRest, IsBegun, Stands}
 use Rattle.machine_laws.specs.RuleTable.{AnInterruptIsDue}
 use Rattle.machine_laws.proofs.DueLaws.{due-is, all-taken_at}

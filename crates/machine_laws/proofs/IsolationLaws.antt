@@ -27,17 +27,17 @@ use Rattle.tcb_pool.specs.declared.tables.TheConstants.{LEAVE}
 use Rattle.deferred_queue.specs.Queue.{Queued, queued}
 use Rattle.isr_nesting.specs.Frames.{FrameRecord, none_stands}
 use Rattle.isr_nesting.specs.Marks.{marks_after, next_instruction}
-use Rattle.machine_core.specs.declared.events.How.{How}
-use Rattle.machine_core.specs.declared.events.How.TheVariants as how
-use Rattle.machine_core.specs.declared.events.What.{What}
-use Rattle.machine_core.specs.declared.events.What.TheVariants.{Quiet, Exit, Trap as TrapLine}
-use Rattle.machine_core.specs.Machine.{Machine, WholeStep, Work, CallOf, UnitOf, TakeOf, effect_of, registers_at}
-use Rattle.machine_core.specs.Answers.{Change}
-use Rattle.machine_core.specs.Settling.{settled, is_free}
-use Rattle.machine_core.specs.Interrupts.{leaves, without_top, frame_runs, frame_did, frame_calls, frame_posts, frame_refused, checked_post, queues, argument_words, interrupt_error, ran}
-use Rattle.machine_core.specs.Steps.{advances, ends, unit_ends}
-use Rattle.machine_core.specs.Acts.{acts, idles, starts_unit, works_in_units, instructs}
-use Rattle.machine_core.specs.Rules.{Rule, Begins, Looks, Enters, FrameLimit, FrameRuns, MicroStep, TakeBegins, TaskActs, rule, done, next}
+use Rattle.machine_model.specs.declared.events.How.{How}
+use Rattle.machine_model.specs.declared.events.How.TheVariants as how
+use Rattle.machine_model.specs.declared.events.What.{What}
+use Rattle.machine_model.specs.declared.events.What.TheVariants.{Quiet, Exit, Trap as TrapLine}
+use Rattle.machine_model.specs.Machine.{Machine, WholeStep, Work, CallOf, UnitOf, TakeOf, effect_of, registers_at}
+use Rattle.machine_model.specs.Answers.{Change}
+use Rattle.machine_model.specs.Settling.{settled, is_free}
+use Rattle.machine_model.specs.Interrupts.{leaves, without_top, frame_runs, frame_did, frame_calls, frame_posts, frame_refused, checked_post, queues, argument_words, interrupt_error, ran}
+use Rattle.machine_model.specs.Steps.{advances, ends, unit_ends}
+use Rattle.machine_model.specs.Acts.{acts, idles, starts_unit, works_in_units, instructs}
+use Rattle.machine_model.specs.Rules.{Rule, Begins, Looks, Enters, FrameLimit, FrameRuns, MicroStep, TakeBegins, TaskActs, rule, done, next}
 use Rattle.machine_laws.specs.Isolation.{HasSameWords, IsIsolated, HasAtMostOneMore, IsInterruptCode, IsEntry, IsEntryAlone, IsLeavingAlone}
 use Rattle.machine_laws.proofs.TrapLaws.{trap-exec}
 

@@ -7,10 +7,10 @@ use Rattle.kern_model.specs.State.{Kernel, pick}
 use Rattle.kern_model.proofs.Tests.{choice_by, equal, and_first, and_second}
 use Rattle.deferred_queue.specs.Queue.{Queued}
 use Rattle.isr_nesting.specs.Frames.{FrameRecord, none_stands}
-use Rattle.machine_core.specs.Machine.{Machine}
-use Rattle.machine_core.specs.Settling.{settled, settled_task, is_free, none_waits}
-use Rattle.machine_core.specs.Interrupts.{without_top, frame_runs}
-use Rattle.machine_core.specs.Rules.{Rule, Begins, Looks, Enters, FrameLimit, FrameRuns, MicroStep, TakeBegins, TaskActs, rule, done, next}
+use Rattle.machine_model.specs.Machine.{Machine}
+use Rattle.machine_model.specs.Settling.{settled, settled_task, is_free, none_waits}
+use Rattle.machine_model.specs.Interrupts.{without_top, frame_runs}
+use Rattle.machine_model.specs.Rules.{Rule, Begins, Looks, Enters, FrameLimit, FrameRuns, MicroStep, TakeBegins, TaskActs, rule, done, next}
 use Rattle.machine_laws.specs.Isolation.{IsInterruptCode}
 use Rattle.machine_laws.proofs.StepCases.{after-frame}
 use Rattle.machine_laws.proofs.RestLaws.{V, rest-of, no_post}

@@ -13,8 +13,8 @@ use Rattle.kern_model.specs.Services.{effect, unit_effect, posted, cost}
 use Rattle.kern_model.specs.Valid.{IsValid, MayCall}
 use Rattle.kern_model.proofs.ValidEffect.{valid-effect, valid-unit}
 use Rattle.deferred_queue.specs.Queue.{Queued, front, without_front}
-use Rattle.machine_core.specs.Machine.{Machine, WholeStep, Work, CallOf, UnitOf, TakeOf, effect_of, handler_compares}
-use Rattle.machine_core.specs.Steps.{advances, begins}
+use Rattle.machine_model.specs.Machine.{Machine, WholeStep, Work, CallOf, UnitOf, TakeOf, effect_of, handler_compares}
+use Rattle.machine_model.specs.Steps.{advances, begins}
 use Rattle.machine_laws.specs.Valid.{HoldsLock, IsQueue, Fits, IsBegun, IsCallInHand, IsUnitInHand}
 use Rattle.machine_laws.proofs.StepCases.{EndsIn, after-advances}
 use Rattle.machine_laws.proofs.ReadyLaws.{calm-posted}

@@ -24,8 +24,8 @@ use Rattle.inject_list.specs.Lists.{ListRecord, IsValidList}
 use Rattle.inject_list.specs.declared.lists.Injection.{Injection}
 use Rattle.deferred_queue.specs.Queue.{Queued}
 use Rattle.isr_nesting.specs.Frames.{Interrupt, interrupt_of}
-use Rattle.machine_core.specs.Machine.{Machine, start}
-use Rattle.machine_core.specs.Rules.{Rule, Begins, Looks, Enters, FrameLimit, FrameRuns, MicroStep, TakeBegins, TaskActs, rule, done, next}
+use Rattle.machine_model.specs.Machine.{Machine, start}
+use Rattle.machine_model.specs.Rules.{Rule, Begins, Looks, Enters, FrameLimit, FrameRuns, MicroStep, TakeBegins, TaskActs, rule, done, next}
 use Rattle.app_image.specs.Layout.{HasWords, HasWordFields}
 use Rattle.machine_laws.specs.Valid.{Fits}
 use Rattle.machine_laws.specs.RuleTable.{Applies}

@@ -11,8 +11,8 @@ use Rattle.inject_list.specs.declared.lists.Moment.{Moment}
 use Rattle.inject_list.specs.declared.lists.Moment.TheVariants.{Step}
 use Rattle.isr_nesting.specs.Frames.{FrameRecord, Interrupt, level_of}
 use Rattle.isr_nesting.specs.Due.{Place, due, due_from, lets_in, highest, highest_from, is_step}
-use Rattle.machine_core.specs.Machine.{Machine}
-use Rattle.machine_core.specs.Rules.{is_masked, is_quiet}
+use Rattle.machine_model.specs.Machine.{Machine}
+use Rattle.machine_model.specs.Rules.{is_masked, is_quiet}
 use Rattle.machine_laws.specs.Prompt.{GoesBefore, EntersBefore, IsWanted}
 
 abbrev Before : Place → Place → Type 0

@@ -15,10 +15,10 @@ use Rattle.rv32_exec.specs.Memory.{ram_start, ram_end}
 use Rattle.rv32_exec.specs.Exec.{Execution, exec}
 use Rattle.rv32_exec.specs.declared.Stepped.{Stepped}
 use Rattle.rv32_exec.specs.declared.Stepped.TheVariants.{Next, Call, Trap, Stored}
-use Rattle.machine_core.specs.Machine.{Machine, registers_at}
-use Rattle.machine_core.specs.Answers.{Change}
-use Rattle.machine_core.specs.Interrupts.{argument_words}
-use Rattle.machine_core.specs.Acts.{is_table, first_words, plain_request, table_request, has_table, request_of, acts, instructs, idles, starts_unit, works_in_units}
+use Rattle.machine_model.specs.Machine.{Machine, registers_at}
+use Rattle.machine_model.specs.Answers.{Change}
+use Rattle.machine_model.specs.Interrupts.{argument_words}
+use Rattle.machine_model.specs.Acts.{is_table, first_words, plain_request, table_request, has_table, request_of, acts, instructs, idles, starts_unit, works_in_units}
 use Rattle.machine_laws.specs.Whole.{HandsTable}
 
 -- the request of a call

@@ -13,8 +13,8 @@ use Rattle.kern_model.proofs.Tests.{choice_by, equal, unequal, and_first}
 use Rattle.kern_model.proofs.CostLaws.{cost-blocks}
 use Rattle.deferred_queue.specs.Queue.{Queued}
 use Rattle.isr_nesting.specs.Frames.{FrameRecord}
-use Rattle.machine_core.specs.Machine.{Machine, WholeStep}
-use Rattle.machine_core.specs.Settling.{none_waits, settled_task}
+use Rattle.machine_model.specs.Machine.{Machine, WholeStep}
+use Rattle.machine_model.specs.Settling.{none_waits, settled_task}
 use Rattle.machine_laws.specs.Valid.{Fits, HoldsLock, IsAtRest, IsInHand, IsValidMachine}
 use Rattle.machine_laws.proofs.PickLaws.{ready-pick, ready-timer}
 

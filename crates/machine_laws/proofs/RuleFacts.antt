@@ -8,9 +8,9 @@ use Rattle.inject_list.specs.declared.lists.Look.{Look}
 use Rattle.deferred_queue.specs.Queue.{Queued, front}
 use Rattle.isr_nesting.specs.Frames.{FrameRecord}
 use Rattle.isr_nesting.specs.Due.{Place, due}
-use Rattle.machine_core.specs.Machine.{Machine, WholeStep}
-use Rattle.machine_core.specs.Looks.{look_at}
-use Rattle.machine_core.specs.Rules.{Rule, Begins, FrameLimit, FrameRuns, rule, rule_of_look, rule_of_due, rule_of_frames, rule_in_hand, rule_of_post, is_masked, is_quiet}
+use Rattle.machine_model.specs.Machine.{Machine, WholeStep}
+use Rattle.machine_model.specs.Looks.{look_at}
+use Rattle.machine_model.specs.Rules.{Rule, Begins, FrameLimit, FrameRuns, rule, rule_of_look, rule_of_due, rule_of_frames, rule_in_hand, rule_of_post, is_masked, is_quiet}
 use Rattle.machine_laws.specs.RuleTable.{NothingComes, FramesStand, NoFrameStands, Applies}
 
 no_post : (later : List Queued) → front later ≡ None → later ≡ []

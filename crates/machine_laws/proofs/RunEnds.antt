@@ -9,13 +9,13 @@ use Rattle.kern_model.proofs.Tests.{equal, unequal}
 use Rattle.app_image.specs.Image.{ImageRecord, IsValidImage}
 use Rattle.inject_list.specs.Lists.{ListRecord, IsValidList}
 use Rattle.isr_nesting.specs.Frames.{FrameRecord, none_stands, level_of}
-use Rattle.machine_core.specs.Machine.{Machine, Work, CallOf, UnitOf, TakeOf, start}
-use Rattle.machine_core.specs.Settling.{settled, is_free}
-use Rattle.machine_core.specs.Bound.{events_left}
-use Rattle.machine_core.specs.Interrupts.{without_top, frame_runs}
-use Rattle.machine_core.specs.Acts.{acts}
-use Rattle.machine_core.specs.Rules.{Rule, Begins, Looks, Enters, FrameLimit, FrameRuns, MicroStep, TakeBegins, TaskActs, rule, done, next}
-use Rattle.machine_core.specs.Run.{Run, run_on, run}
+use Rattle.machine_model.specs.Machine.{Machine, Work, CallOf, UnitOf, TakeOf, start}
+use Rattle.machine_model.specs.Settling.{settled, is_free}
+use Rattle.machine_model.specs.Bound.{events_left}
+use Rattle.machine_model.specs.Interrupts.{without_top, frame_runs}
+use Rattle.machine_model.specs.Acts.{acts}
+use Rattle.machine_model.specs.Rules.{Rule, Begins, Looks, Enters, FrameLimit, FrameRuns, MicroStep, TakeBegins, TaskActs, rule, done, next}
+use Rattle.machine_model.specs.Run.{Run, run_on, run}
 use Rattle.machine_laws.specs.RuleTable.{Applies}
 use Rattle.app_image.specs.Layout.{HasWords}
 use Rattle.machine_laws.specs.Valid.{AreStacked}

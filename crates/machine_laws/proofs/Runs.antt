@@ -16,8 +16,8 @@ use Rattle.inject_list.specs.declared.lists.Injection.{Injection}
 use Rattle.inject_list.specs.declared.lists.Look.{Look}
 use Rattle.inject_list.specs.declared.lists.Moment.TheVariants.{Task, Step}
 use Rattle.inject_list.specs.declared.lists.Seen.TheVariants.{Obj, Ready}
-use Rattle.machine_core.specs.Run.{Run, run, run_text, history}
-use Rattle.machine_core.specs.Premises.{premise_lines, is_broken}
+use Rattle.machine_model.specs.Run.{Run, run, run_text, history}
+use Rattle.machine_model.specs.Premises.{premise_lines, is_broken}
 
 -- what both runs print, and whether a premise is broken
 abbrev both_text : ImageRecord → Run → Run → List ℕ × Bool

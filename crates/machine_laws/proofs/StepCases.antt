@@ -27,14 +27,14 @@ use Rattle.tcb_pool.specs.declared.tables.TheConstants.{LEAVE}
 use Rattle.deferred_queue.specs.Queue.{without_front}
 use Rattle.isr_nesting.specs.Frames.{FrameRecord}
 use Rattle.isr_nesting.specs.Marks.{marks_after, next_instruction}
-use Rattle.machine_core.specs.declared.events.How.TheVariants as how
-use Rattle.machine_core.specs.declared.events.What.TheVariants.{Quiet}
-use Rattle.machine_core.specs.Machine.{Machine, WholeStep, Work, CallOf, UnitOf, TakeOf, effect_of, registers_at}
-use Rattle.machine_core.specs.Answers.{Change}
-use Rattle.machine_core.specs.Settling.{settled}
-use Rattle.machine_core.specs.Interrupts.{leaves, without_top, frame_runs, frame_did, frame_calls, frame_posts, frame_refused, posting, argument_words, interrupt_error, ran}
-use Rattle.machine_core.specs.Steps.{advances, ends, begins, after_fire, with_callback}
-use Rattle.machine_core.specs.Acts.{acts, idles, starts_unit, works_in_units, instructs, after_instruction, trapped, request_of}
+use Rattle.machine_model.specs.declared.events.How.TheVariants as how
+use Rattle.machine_model.specs.declared.events.What.TheVariants.{Quiet}
+use Rattle.machine_model.specs.Machine.{Machine, WholeStep, Work, CallOf, UnitOf, TakeOf, effect_of, registers_at}
+use Rattle.machine_model.specs.Answers.{Change}
+use Rattle.machine_model.specs.Settling.{settled}
+use Rattle.machine_model.specs.Interrupts.{leaves, without_top, frame_runs, frame_did, frame_calls, frame_posts, frame_refused, posting, argument_words, interrupt_error, ran}
+use Rattle.machine_model.specs.Steps.{advances, ends, begins, after_fire, with_callback}
+use Rattle.machine_model.specs.Acts.{acts, idles, starts_unit, works_in_units, instructs, after_instruction, trapped, request_of}
 
 -- An instruction of the top frame: the frame leaves, or it stands on, with one instruction more, where the memory or
 -- nothing else has changed, or a post was made.

@@ -8,7 +8,7 @@ use Rattle.kern_model.specs.Valid.{IsValid, MayCall}
 use Rattle.app_image.specs.declared.settings.Config.{Config}
 use Rattle.deferred_queue.specs.Queue.{Queued}
 use Rattle.isr_nesting.specs.Frames.{FrameRecord}
-use Rattle.machine_core.specs.Machine.{Machine, WholeStep, Work, CallOf, UnitOf, TakeOf}
+use Rattle.machine_model.specs.Machine.{Machine, WholeStep, Work, CallOf, UnitOf, TakeOf}
 use Rattle.machine_laws.specs.Valid.{HoldsLock, IsBegun, Stands, IsValidMachine}
 
 module _ (k : Kernel) (v : IsValid k) (p : k.processing ≡ true) (current : ℕ) where

@@ -17,12 +17,12 @@ use Rattle.kern_laws.specs.Whole.{EffectKeepsWhole, UnitKeepsWhole, FinishKeepsW
 use Rattle.tcb_pool.specs.declared.tables.TheConstants.{LEAVE}
 use Rattle.deferred_queue.specs.Queue.{Queued, queued}
 use Rattle.isr_nesting.specs.Frames.{FrameRecord, none_stands}
-use Rattle.machine_core.specs.Machine.{Machine, WholeStep, Work, CallOf, UnitOf, TakeOf, effect_of, handler_compares}
-use Rattle.machine_core.specs.Settling.{is_free, settled}
-use Rattle.machine_core.specs.Interrupts.{without_top, frame_runs, checked_post, queues}
-use Rattle.machine_core.specs.Acts.{acts, after_instruction, trapped}
-use Rattle.machine_core.specs.Steps.{advances}
-use Rattle.machine_core.specs.Rules.{Rule, Begins, Looks, Enters, FrameLimit, FrameRuns, MicroStep, TakeBegins, TaskActs, rule, done, next}
+use Rattle.machine_model.specs.Machine.{Machine, WholeStep, Work, CallOf, UnitOf, TakeOf, effect_of, handler_compares}
+use Rattle.machine_model.specs.Settling.{is_free, settled}
+use Rattle.machine_model.specs.Interrupts.{without_top, frame_runs, checked_post, queues}
+use Rattle.machine_model.specs.Acts.{acts, after_instruction, trapped}
+use Rattle.machine_model.specs.Steps.{advances}
+use Rattle.machine_model.specs.Rules.{Rule, Begins, Looks, Enters, FrameLimit, FrameRuns, MicroStep, TakeBegins, TaskActs, rule, done, next}
 use Rattle.machine_laws.specs.RuleTable.{Applies}
 use Rattle.machine_laws.specs.Valid.{IsBegun}
 use Rattle.machine_laws.specs.Whole.{HasTableInHand, HandsTable, IsWholeMachine}

@@ -6,10 +6,10 @@ use Rattle.kern_base.specs.declared.services.Service.{Service}
 use Rattle.app_image.specs.Image.{ImageRecord, IsValidImage}
 use Rattle.app_image.specs.Layout.{HasWords}
 use Rattle.inject_list.specs.Lists.{ListRecord, IsValidList}
-use Rattle.machine_core.specs.Machine.{Machine, start}
-use Rattle.machine_core.specs.Bound.{events_left}
-use Rattle.machine_core.specs.Rules.{next}
-use Rattle.machine_core.specs.Run.{Run, run_on, run}
+use Rattle.machine_model.specs.Machine.{Machine, start}
+use Rattle.machine_model.specs.Bound.{events_left}
+use Rattle.machine_model.specs.Rules.{next}
+use Rattle.machine_model.specs.Run.{Run, run_on, run}
 use Rattle.machine_laws.specs.Whole.{IsWholeMachine}
 use Rattle.machine_laws.proofs.RunEnds.{run_on-more, run_on-end}
 use Rattle.machine_laws.proofs.WholeNext.{KernelStaysWhole, whole-next}

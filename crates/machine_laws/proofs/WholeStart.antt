@@ -25,7 +25,7 @@ use Rattle.app_image.specs.Layout.{HasWords}
 use Rattle.app_image.specs.declared.records.ObjDef.{ObjDef}
 use Rattle.app_image.specs.declared.settings.Config.{Config}
 use Rattle.inject_list.specs.Lists.{ListRecord, IsValidList}
-use Rattle.machine_core.specs.Machine.{start}
+use Rattle.machine_model.specs.Machine.{start}
 use Rattle.machine_laws.specs.Whole.{IsWholeMachine}
 use Rattle.machine_laws.proofs.NextValid.{valid-start_machine}
 

@@ -4,10 +4,10 @@ use Rattle.kern_base.specs.declared.kinds.Method.{Method}
 use Rattle.kern_base.specs.declared.services.Service.{Service}
 use Rattle.app_image.specs.Image.{ImageRecord}
 use Rattle.inject_list.specs.Lists.{ListRecord}
-use Rattle.machine_core.specs.Machine.{Machine}
-use Rattle.machine_core.specs.Bound.{first_event}
-use Rattle.machine_core.specs.Rules.{next}
-use Rattle.machine_core.specs.Run.{run_on, run}
+use Rattle.machine_model.specs.Machine.{Machine}
+use Rattle.machine_model.specs.Bound.{first_event}
+use Rattle.machine_model.specs.Rules.{next}
+use Rattle.machine_model.specs.Run.{run_on, run}
 
 -- At most so many events without a raw step are still to come: the first one, each look, each entry of an interrupt, and
 -- each frame's leaving at its limit.

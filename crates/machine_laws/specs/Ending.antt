@@ -5,10 +5,10 @@ use Rattle.kern_base.specs.declared.kinds.Method.TheVariants.{Deferred}
 use Rattle.kern_base.specs.declared.services.Service.{Service}
 use Rattle.app_image.specs.Image.{ImageRecord, IsValidImage}
 use Rattle.inject_list.specs.Lists.{ListRecord, IsValidList}
-use Rattle.machine_core.specs.Machine.{Machine}
-use Rattle.machine_core.specs.Bound.{events_left}
-use Rattle.machine_core.specs.Rules.{rule, next}
-use Rattle.machine_core.specs.Run.{run}
+use Rattle.machine_model.specs.Machine.{Machine}
+use Rattle.machine_model.specs.Bound.{events_left}
+use Rattle.machine_model.specs.Rules.{rule, next}
+use Rattle.machine_model.specs.Run.{run}
 use Rattle.machine_laws.specs.Isolation.{IsInterruptCode}
 use Rattle.app_image.specs.Layout.{HasWords}
 use Rattle.machine_laws.specs.Valid.{IsValidMachine}

@@ -4,9 +4,9 @@ use Rattle.kern_base.specs.declared.kinds.Method.{Method}
 use Rattle.inject_list.specs.declared.lists.Moment.TheVariants.{Step}
 use Rattle.isr_nesting.specs.Frames.{Interrupt, level_of}
 use Rattle.isr_nesting.specs.Due.{Place}
-use Rattle.machine_core.specs.Machine.{Machine}
-use Rattle.machine_core.specs.Looks.{look_at}
-use Rattle.machine_core.specs.Rules.{Enters, rule, is_masked}
+use Rattle.machine_model.specs.Machine.{Machine}
+use Rattle.machine_model.specs.Looks.{look_at}
+use Rattle.machine_model.specs.Rules.{Enters, rule, is_masked}
 
 -- an interrupt at this place goes before another one: it has a higher level, or the same and an earlier place
 abbrev pub GoesBefore : ℕ → ℕ → ℕ → ℕ → Type 0

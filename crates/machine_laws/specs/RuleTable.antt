@@ -5,9 +5,9 @@ use Rattle.inject_list.specs.declared.lists.Look.{Look}
 use Rattle.deferred_queue.specs.Queue.{front}
 use Rattle.isr_nesting.specs.Frames.{FrameRecord}
 use Rattle.isr_nesting.specs.Due.{Place, due}
-use Rattle.machine_core.specs.Machine.{Machine, WholeStep}
-use Rattle.machine_core.specs.Looks.{look_at}
-use Rattle.machine_core.specs.Rules.{Rule, Begins, Looks, Enters, FrameLimit, FrameRuns, MicroStep, TakeBegins, TaskActs, rule, is_masked, is_quiet}
+use Rattle.machine_model.specs.Machine.{Machine, WholeStep}
+use Rattle.machine_model.specs.Looks.{look_at}
+use Rattle.machine_model.specs.Rules.{Rule, Begins, Looks, Enters, FrameLimit, FrameRuns, MicroStep, TakeBegins, TaskActs, rule, is_masked, is_quiet}
 
 -- a look has this moment
 pub record ALookIsHere (l : Look) (m : Machine) : Type 0 where

@@ -6,10 +6,10 @@ use Rattle.kern_base.specs.declared.kinds.Method.{Method}
 use Rattle.kern_base.specs.declared.services.Service.{Service}
 use Rattle.app_image.specs.Image.{ImageRecord, IsValidImage}
 use Rattle.inject_list.specs.Lists.{ListRecord, IsValidList, last_moment}
-use Rattle.machine_core.specs.Machine.{Machine, start}
-use Rattle.machine_core.specs.Bound.{events_left, whole_step_events}
-use Rattle.machine_core.specs.Rules.{Rule, Enters, FrameRuns, TakeBegins, rule, next}
-use Rattle.machine_core.specs.Run.{run}
+use Rattle.machine_model.specs.Machine.{Machine, start}
+use Rattle.machine_model.specs.Bound.{events_left, whole_step_events}
+use Rattle.machine_model.specs.Rules.{Rule, Enters, FrameRuns, TakeBegins, rule, next}
+use Rattle.machine_model.specs.Run.{run}
 use Rattle.app_image.specs.Layout.{HasWords}
 use Rattle.machine_laws.specs.Valid.{IsValidMachine}
 

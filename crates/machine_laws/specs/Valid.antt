@@ -13,8 +13,8 @@ use Rattle.app_image.specs.declared.settings.Config.{Config}
 use Rattle.inject_list.specs.Lists.{ListRecord, IsValidList}
 use Rattle.deferred_queue.specs.Queue.{Queued, front}
 use Rattle.isr_nesting.specs.Frames.{FrameRecord, level_of}
-use Rattle.machine_core.specs.Machine.{Machine, WholeStep, Work, CallOf, UnitOf, TakeOf, effect_of, start}
-use Rattle.machine_core.specs.Rules.{next}
+use Rattle.machine_model.specs.Machine.{Machine, WholeStep, Work, CallOf, UnitOf, TakeOf, effect_of, start}
+use Rattle.machine_model.specs.Rules.{next}
 
 -- Frames: each is within the limit of instructions, and of a level above those below it and of 7 at most.
 abbrev pub AreStacked : ℕ → List FrameRecord → Type 0

@@ -6,9 +6,9 @@ use Rattle.kern_laws.specs.Consistent.{HasRequestTable, IsWhole}
 use Rattle.app_image.specs.Image.{ImageRecord, IsValidImage}
 use Rattle.app_image.specs.Layout.{HasWords}
 use Rattle.inject_list.specs.Lists.{ListRecord, IsValidList}
-use Rattle.machine_core.specs.Machine.{Machine, WholeStep, Work, CallOf, UnitOf, TakeOf, start}
-use Rattle.machine_core.specs.Rules.{next}
-use Rattle.machine_core.specs.Run.{run}
+use Rattle.machine_model.specs.Machine.{Machine, WholeStep, Work, CallOf, UnitOf, TakeOf, start}
+use Rattle.machine_model.specs.Rules.{next}
+use Rattle.machine_model.specs.Run.{run}
 use Rattle.machine_laws.specs.Valid.{IsValidMachine}
 
 -- a call in hand has its table, where one was read, in RAM

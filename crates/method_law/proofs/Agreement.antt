@@ -4,11 +4,11 @@ use Rattle.kern_base.specs.declared.kinds.Method.TheVariants.{Direct, Deferred}
 use Rattle.kern_base.specs.declared.services.Service.{Service}
 use Rattle.app_image.specs.Image.{ImageRecord, IsValidImage}
 use Rattle.inject_list.specs.Lists.{ListRecord, IsValidList}
-use Rattle.machine_core.specs.Bound.{events_left}
-use Rattle.machine_core.specs.Machine.{Machine, start}
-use Rattle.machine_core.specs.Premises.{is_broken}
-use Rattle.machine_core.specs.Rules.{next}
-use Rattle.machine_core.specs.Run.{run, history}
+use Rattle.machine_model.specs.Bound.{events_left}
+use Rattle.machine_model.specs.Machine.{Machine, start}
+use Rattle.machine_model.specs.Premises.{is_broken}
+use Rattle.machine_model.specs.Rules.{next}
+use Rattle.machine_model.specs.Run.{run, history}
 use Rattle.app_image.specs.Layout.{HasWords}
 use Rattle.machine_laws.specs.Valid.{IsValidMachine}
 use Rattle.machine_laws.proofs.NextValid.{valid-next, valid-start_machine}

@@ -16,8 +16,8 @@ use Rattle.kern_model.specs.Semaphores.{sem_post}
 use Rattle.kern_model.specs.Flags.{flag_post}
 use Rattle.kern_model.specs.Services.{posted, post_request, row_of, after_checks, content_for}
 use Rattle.rv32_exec.specs.Registers.{Registers, read}
-use Rattle.machine_core.specs.Answers.{arguments}
-use Rattle.machine_core.specs.Interrupts.{argument_words}
+use Rattle.machine_model.specs.Answers.{arguments}
+use Rattle.machine_model.specs.Interrupts.{argument_words}
 
 module _ (served : Service → Bool) (p h : ℕ) (k : Kernel) where
   -- requests that fail the same check and do the same after it

@@ -5,8 +5,8 @@ use Rattle.kern_base.specs.declared.services.Service.{Service}
 use Rattle.kern_base.specs.Services.{service_of, argument_count}
 use Rattle.rv32_exec.specs.Registers.{Registers, read}
 use Rattle.isr_nesting.specs.Marks.{is_marked, call_reads}
-use Rattle.machine_core.specs.Answers.{arguments}
-use Rattle.machine_core.specs.Interrupts.{argument_words}
+use Rattle.machine_model.specs.Answers.{arguments}
+use Rattle.machine_model.specs.Interrupts.{argument_words}
 use Rattle.method_law.specs.Alike.{AgreeBut, SameCall}
 use Rattle.method_law.proofs.MarkLaws.{first-unmarked, rest-unmarked}
 

@@ -12,11 +12,11 @@ use Rattle.rv32_exec.specs.Exec.{Execution, exec}
 use Rattle.rv32_exec.specs.declared.Stepped.{Stepped}
 use Rattle.rv32_exec.specs.declared.Stepped.TheVariants.{Next, Call, Trap, Stored}
 use Rattle.inject_list.specs.declared.lists.Look.{Look}
-use Rattle.machine_core.specs.declared.events.What.TheVariants.{Quiet}
-use Rattle.machine_core.specs.Machine.{Machine, Work, CallOf, UnitOf, TakeOf, WholeStep, effect_of, registers_at}
-use Rattle.machine_core.specs.Answers.{Change}
-use Rattle.machine_core.specs.Steps.{advances, ends, call_ends, unit_ends}
-use Rattle.machine_core.specs.Acts.{finishes, instructs, idles, starts_unit, works_in_units, acts}
+use Rattle.machine_model.specs.declared.events.What.TheVariants.{Quiet}
+use Rattle.machine_model.specs.Machine.{Machine, Work, CallOf, UnitOf, TakeOf, WholeStep, effect_of, registers_at}
+use Rattle.machine_model.specs.Answers.{Change}
+use Rattle.machine_model.specs.Steps.{advances, ends, call_ends, unit_ends}
+use Rattle.machine_model.specs.Acts.{finishes, instructs, idles, starts_unit, works_in_units, acts}
 use Rattle.method_law.specs.Modes.{at_step, calm_machine, IsNoTake}
 use Rattle.method_law.proofs.Choices.{both}
 use Rattle.method_law.proofs.Twins.{Twins, twins}

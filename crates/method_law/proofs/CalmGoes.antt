@@ -13,12 +13,12 @@ use Rattle.inject_list.specs.declared.lists.Look.{Look}
 use Rattle.deferred_queue.specs.Queue.{Queued}
 use Rattle.isr_nesting.specs.Frames.{entered}
 use Rattle.isr_nesting.specs.Due.{Place, is_step, due}
-use Rattle.machine_core.specs.Machine.{Machine, WholeStep}
-use Rattle.machine_core.specs.Looks.{look_at}
-use Rattle.machine_core.specs.Rules.{Begins, Enters, MicroStep, TaskActs, rule, rule_of_post, rule_of_due, rule_of_look, next}
-use Rattle.machine_core.specs.Text.{event_history, history_words}
-use Rattle.machine_core.specs.Acts.{acts}
-use Rattle.machine_core.specs.Steps.{advances}
+use Rattle.machine_model.specs.Machine.{Machine, WholeStep}
+use Rattle.machine_model.specs.Looks.{look_at}
+use Rattle.machine_model.specs.Rules.{Begins, Enters, MicroStep, TaskActs, rule, rule_of_post, rule_of_due, rule_of_look, next}
+use Rattle.machine_model.specs.Text.{event_history, history_words}
+use Rattle.machine_model.specs.Acts.{acts}
+use Rattle.machine_model.specs.Steps.{advances}
 use Rattle.method_law.specs.Alike.{AgreeBut}
 use Rattle.method_law.specs.Modes.{frame, at_step, calm_machine, HasNoTake, FrameAgrees, IsOpen}
 use Rattle.method_law.specs.Going.{BreaksNone, GoTogether}

@@ -9,9 +9,9 @@ use Rattle.kern_base.specs.Checks.{is_post}
 use Rattle.kern_model.specs.Valid.{IsValid}
 use Rattle.deferred_queue.specs.Queue.{Queued}
 use Rattle.method_law.proofs.TakeSame.{take-same}
-use Rattle.machine_core.specs.Machine.{Machine}
-use Rattle.machine_core.specs.Looks.{look_at}
-use Rattle.machine_core.specs.Rules.{next}
+use Rattle.machine_model.specs.Machine.{Machine}
+use Rattle.machine_model.specs.Looks.{look_at}
+use Rattle.machine_model.specs.Rules.{next}
 use Rattle.method_law.specs.Modes.{Related, calm, frame, waits, takes}
 use Rattle.method_law.specs.Going.{BreaksNone, Goes}
 use Rattle.method_law.proofs.CalmGoes.{goes-calm}

@@ -24,17 +24,17 @@ use Rattle.isr_nesting.specs.Frames.{FrameRecord}
 use Rattle.isr_nesting.specs.Marks.{post_marks, marks_after, next_instruction, instruction_of, reads_result, writes}
 use Rattle.rv32_isa.specs.declared.Instr.{Instr}
 use Rattle.method_law.proofs.ExecLaws.{like-exec}
-use Rattle.machine_core.specs.declared.events.How.{How}
-use Rattle.machine_core.specs.declared.events.How.TheVariants as how
-use Rattle.machine_core.specs.declared.events.What.TheVariants.{Quiet, Post, Exit}
-use Rattle.machine_core.specs.Machine.{Machine}
-use Rattle.machine_core.specs.Answers.{Change, arguments}
-use Rattle.machine_core.specs.Settling.{settled_task}
-use Rattle.machine_core.specs.Interrupts.{leaves, ran, argument_words, told, interrupt_error, posts_by, frame_posts, frame_refused, frame_calls, frame_did, frame_runs, checked_post, queues, answered_frame, Posting}
-use Rattle.machine_core.specs.Premises.{loses_post}
-use Rattle.machine_core.specs.Rules.{FrameRuns, marks, switch_of}
-use Rattle.machine_core.specs.Text.{event_history, history_line, history_words}
-use Rattle.machine_core.specs.Words.{switch_words}
+use Rattle.machine_model.specs.declared.events.How.{How}
+use Rattle.machine_model.specs.declared.events.How.TheVariants as how
+use Rattle.machine_model.specs.declared.events.What.TheVariants.{Quiet, Post, Exit}
+use Rattle.machine_model.specs.Machine.{Machine}
+use Rattle.machine_model.specs.Answers.{Change, arguments}
+use Rattle.machine_model.specs.Settling.{settled_task}
+use Rattle.machine_model.specs.Interrupts.{leaves, ran, argument_words, told, interrupt_error, posts_by, frame_posts, frame_refused, frame_calls, frame_did, frame_runs, checked_post, queues, answered_frame, Posting}
+use Rattle.machine_model.specs.Premises.{loses_post}
+use Rattle.machine_model.specs.Rules.{FrameRuns, marks, switch_of}
+use Rattle.machine_model.specs.Text.{event_history, history_line, history_words}
+use Rattle.machine_model.specs.Words.{switch_words}
 use Rattle.method_law.specs.Alike.{AgreeBut, SameCall, is_trap, is_call}
 use Rattle.method_law.specs.Relation.{all_performed}
 use Rattle.method_law.specs.Modes.{Related, waits, at_step, frame_machine, takes_machine, settled_machine, FrameAgrees, IsOpen, ArePosts}

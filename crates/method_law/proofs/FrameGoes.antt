@@ -9,10 +9,10 @@ use Rattle.inject_list.specs.declared.lists.Look.{Look}
 use Rattle.deferred_queue.specs.Queue.{Queued}
 use Rattle.isr_nesting.specs.Frames.{FrameRecord}
 use Rattle.isr_nesting.specs.Due.{due}
-use Rattle.machine_core.specs.declared.events.How.TheVariants as how
-use Rattle.machine_core.specs.Machine.{Machine}
-use Rattle.machine_core.specs.Looks.{look_at}
-use Rattle.machine_core.specs.Rules.{Rule, Enters, FrameLimit, FrameRuns, rule, rule_of_due, rule_of_look, next, is_quiet}
+use Rattle.machine_model.specs.declared.events.How.TheVariants as how
+use Rattle.machine_model.specs.Machine.{Machine}
+use Rattle.machine_model.specs.Looks.{look_at}
+use Rattle.machine_model.specs.Rules.{Rule, Enters, FrameLimit, FrameRuns, rule, rule_of_due, rule_of_look, next, is_quiet}
 use Rattle.method_law.specs.Relation.{all_performed}
 use Rattle.method_law.specs.Modes.{at_step, frame_machine, FrameAgrees, IsOpen}
 use Rattle.method_law.specs.Going.{BreaksNone, GoTogether}

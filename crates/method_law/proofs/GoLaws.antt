@@ -6,13 +6,13 @@ use Rattle.kern_base.specs.declared.kinds.Method.{Method}
 use Rattle.kern_base.specs.declared.kinds.Method.TheVariants.{Direct, Deferred}
 use Rattle.kern_base.specs.declared.services.Service.{Service}
 use Rattle.app_image.specs.Image.{ImageRecord}
-use Rattle.machine_core.specs.declared.events.Event.{Event}
-use Rattle.machine_core.specs.declared.events.What.{What}
-use Rattle.machine_core.specs.Machine.{Machine}
-use Rattle.machine_core.specs.Answers.{task_id}
-use Rattle.machine_core.specs.Rules.{Rule, rule, raw, marks, done, switch_of}
-use Rattle.machine_core.specs.Text.{event_history, history_line, history_words}
-use Rattle.machine_core.specs.Words.{switch_words}
+use Rattle.machine_model.specs.declared.events.Event.{Event}
+use Rattle.machine_model.specs.declared.events.What.{What}
+use Rattle.machine_model.specs.Machine.{Machine}
+use Rattle.machine_model.specs.Answers.{task_id}
+use Rattle.machine_model.specs.Rules.{Rule, rule, raw, marks, done, switch_of}
+use Rattle.machine_model.specs.Text.{event_history, history_line, history_words}
+use Rattle.machine_model.specs.Words.{switch_words}
 use Rattle.method_law.specs.Modes.{Related, calm, frame}
 use Rattle.method_law.specs.Going.{owed, GoesAlone, GoTogether}
 use Rattle.method_law.proofs.Twins.{Twins, twins, frame_twins}

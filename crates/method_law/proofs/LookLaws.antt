@@ -6,10 +6,10 @@ use Rattle.kern_base.specs.declared.kinds.Method.{Method}
 use Rattle.kern_base.specs.declared.services.Service.{Service}
 use Rattle.app_image.specs.Image.{ImageRecord}
 use Rattle.inject_list.specs.declared.lists.Look.{Look}
-use Rattle.machine_core.specs.Machine.{Machine}
-use Rattle.machine_core.specs.Looks.{look_at}
-use Rattle.machine_core.specs.Rules.{Begins, Looks, rule, rule_of_look}
-use Rattle.machine_core.specs.Text.{event_history}
+use Rattle.machine_model.specs.Machine.{Machine}
+use Rattle.machine_model.specs.Looks.{look_at}
+use Rattle.machine_model.specs.Rules.{Begins, Looks, rule, rule_of_look}
+use Rattle.machine_model.specs.Text.{event_history}
 use Rattle.method_law.specs.Modes.{Related, calm, frame, waits, takes}
 use Rattle.method_law.specs.Going.{GoTogether, owed}
 use Rattle.method_law.proofs.CalmGoes.{goes-begins}

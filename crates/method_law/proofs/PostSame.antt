@@ -16,7 +16,7 @@ use Rattle.kern_model.specs.Flags.{flag_wakes_all, flag_post}
 use Rattle.kern_model.specs.TaskObjects.{task_sem_post_to, task_q_post_to}
 use Rattle.kern_model.specs.Valid.{IsValid}
 use Rattle.kern_model.proofs.PostLaws.{PostKeeps, keeps-refl, keeps-with_content}
-use Rattle.machine_core.specs.Steps.{some_readied}
+use Rattle.machine_model.specs.Steps.{some_readied}
 use Rattle.method_law.proofs.WakeSame.{waits_not, none-readied, joins-alike, same-wakes_all, same-flag_wakes_all}
 
 -- what is chosen of a list stands in it

@@ -7,11 +7,11 @@ use Rattle.kern_base.specs.declared.kinds.Method.TheVariants.{Direct, Deferred}
 use Rattle.kern_base.specs.declared.services.Service.{Service}
 use Rattle.app_image.specs.Image.{ImageRecord}
 use Rattle.inject_list.specs.Lists.{ListRecord}
-use Rattle.machine_core.specs.declared.events.Event.{Event}
-use Rattle.machine_core.specs.Bound.{events_left}
-use Rattle.machine_core.specs.Machine.{start}
-use Rattle.machine_core.specs.Premises.{enters_by_step, enters_locked, loses_post, readies_interrupted, broken_at, is_broken}
-use Rattle.machine_core.specs.Run.{Run, run, history}
+use Rattle.machine_model.specs.declared.events.Event.{Event}
+use Rattle.machine_model.specs.Bound.{events_left}
+use Rattle.machine_model.specs.Machine.{start}
+use Rattle.machine_model.specs.Premises.{enters_by_step, enters_locked, loses_post, readies_interrupted, broken_at, is_broken}
+use Rattle.machine_model.specs.Run.{Run, run, history}
 use Rattle.method_law.specs.Modes.{Related, calm}
 use Rattle.method_law.specs.Going.{BreaksNone}
 use Rattle.method_law.specs.Runs.{KernelsStayValid}

@@ -6,11 +6,11 @@ use Rattle.kern_base.specs.declared.kinds.Method.{Method}
 use Rattle.kern_base.specs.declared.kinds.Method.TheVariants.{Direct, Deferred}
 use Rattle.kern_base.specs.declared.services.Service.{Service}
 use Rattle.app_image.specs.Image.{ImageRecord}
-use Rattle.machine_core.specs.declared.events.Event.{Event}
-use Rattle.machine_core.specs.Machine.{Machine}
-use Rattle.machine_core.specs.Rules.{next}
-use Rattle.machine_core.specs.Run.{Run, run_on, history}
-use Rattle.machine_core.specs.Text.{event_history, end_history}
+use Rattle.machine_model.specs.declared.events.Event.{Event}
+use Rattle.machine_model.specs.Machine.{Machine}
+use Rattle.machine_model.specs.Rules.{next}
+use Rattle.machine_model.specs.Run.{Run, run_on, history}
+use Rattle.machine_model.specs.Text.{event_history, end_history}
 use Rattle.method_law.specs.Modes.{Related}
 use Rattle.method_law.specs.Going.{owed}
 use Rattle.method_law.proofs.LookLaws.{related-t, related-end}

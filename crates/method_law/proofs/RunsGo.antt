@@ -7,12 +7,12 @@ use Rattle.kern_base.specs.declared.kinds.Method.TheVariants.{Direct, Deferred}
 use Rattle.kern_base.specs.declared.services.Service.{Service}
 use Rattle.app_image.specs.Image.{ImageRecord}
 use Rattle.inject_list.specs.declared.lists.Look.{Look}
-use Rattle.machine_core.specs.declared.events.Event.{Event}
-use Rattle.machine_core.specs.Machine.{Machine}
-use Rattle.machine_core.specs.Looks.{look_at, without_look}
-use Rattle.machine_core.specs.Rules.{Looks, next}
-use Rattle.machine_core.specs.Run.{Run, run_on}
-use Rattle.machine_core.specs.Text.{event_history}
+use Rattle.machine_model.specs.declared.events.Event.{Event}
+use Rattle.machine_model.specs.Machine.{Machine}
+use Rattle.machine_model.specs.Looks.{look_at, without_look}
+use Rattle.machine_model.specs.Rules.{Looks, next}
+use Rattle.machine_model.specs.Run.{Run, run_on}
+use Rattle.machine_model.specs.Text.{event_history}
 use Rattle.method_law.specs.Modes.{Related}
 use Rattle.method_law.specs.Going.{BreaksNone, GoesAlone, GoTogether, owed}
 use Rattle.method_law.specs.Runs.{KernelsStayValid}

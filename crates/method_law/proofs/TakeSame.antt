@@ -17,7 +17,7 @@ use Rattle.kern_model.proofs.PostLaws.{keeps-posted}
 use Rattle.kern_model.proofs.ValidEffect.{valid-effect}
 use Rattle.app_image.specs.declared.settings.Config.{Config}
 use Rattle.deferred_queue.specs.Queue.{Queued}
-use Rattle.machine_core.specs.Steps.{some_readied}
+use Rattle.machine_model.specs.Steps.{some_readied}
 use Rattle.method_law.specs.Relation.{performed}
 use Rattle.method_law.specs.Takes.{TakesAsAtOnce}
 use Rattle.method_law.proofs.PostSame.{Same, same-sem_post, same-q_post, same-flag_post, same-task_sem, same-task_q}

@@ -12,17 +12,17 @@ use Rattle.app_image.specs.Image.{ImageRecord}
 use Rattle.inject_list.specs.declared.lists.Look.{Look}
 use Rattle.deferred_queue.specs.Queue.{Queued}
 use Rattle.isr_nesting.specs.Due.{due}
-use Rattle.machine_core.specs.declared.events.Event.{Event}
-use Rattle.machine_core.specs.declared.events.What.{What}
-use Rattle.machine_core.specs.declared.events.What.TheVariants.{Quiet}
-use Rattle.machine_core.specs.Machine.{Machine, TakeOf, WholeStep, effect_of}
-use Rattle.machine_core.specs.Looks.{look_at}
-use Rattle.machine_core.specs.Premises.{readies_interrupted}
-use Rattle.machine_core.specs.Settling.{settled_task}
-use Rattle.machine_core.specs.Steps.{take_ends}
-use Rattle.machine_core.specs.Rules.{Rule, Enters, MicroStep, TakeBegins, rule, rule_of_due, rule_of_look, rule_of_post, next, switch_of}
-use Rattle.machine_core.specs.Text.{event_history, history_line, history_words}
-use Rattle.machine_core.specs.Words.{switch_words}
+use Rattle.machine_model.specs.declared.events.Event.{Event}
+use Rattle.machine_model.specs.declared.events.What.{What}
+use Rattle.machine_model.specs.declared.events.What.TheVariants.{Quiet}
+use Rattle.machine_model.specs.Machine.{Machine, TakeOf, WholeStep, effect_of}
+use Rattle.machine_model.specs.Looks.{look_at}
+use Rattle.machine_model.specs.Premises.{readies_interrupted}
+use Rattle.machine_model.specs.Settling.{settled_task}
+use Rattle.machine_model.specs.Steps.{take_ends}
+use Rattle.machine_model.specs.Rules.{Rule, Enters, MicroStep, TakeBegins, rule, rule_of_due, rule_of_look, rule_of_post, next, switch_of}
+use Rattle.machine_model.specs.Text.{event_history, history_line, history_words}
+use Rattle.machine_model.specs.Words.{switch_words}
 use Rattle.method_law.specs.Relation.{performed, all_performed}
 use Rattle.method_law.specs.Modes.{Related, calm, waits, takes, at_step, takes_machine, settled_machine, IsOpen, ArePosts}
 use Rattle.method_law.specs.Going.{BreaksNone, GoesAlone, owed}

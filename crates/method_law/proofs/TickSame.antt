@@ -13,7 +13,7 @@ use Rattle.kern_model.specs.Time.{signalled, signals_tick, signals_timer, time_t
 use Rattle.kern_model.specs.Valid.{IsValid}
 use Rattle.kern_model.proofs.Laws.{update_task_same, update_task_at, task-other}
 use Rattle.kern_model.proofs.PostLaws.{PostKeeps}
-use Rattle.machine_core.specs.Steps.{some_readied}
+use Rattle.machine_model.specs.Steps.{some_readied}
 use Rattle.kern_model.proofs.LeadLaws.{choice}
 use Rattle.method_law.proofs.WakeSame.{waits_not, none-readied, joins-alike, same-place}
 use Rattle.method_law.proofs.PostSame.{Same}

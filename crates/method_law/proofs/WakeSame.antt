@@ -13,7 +13,7 @@ use Rattle.kern_model.specs.Flags.{flag_wakes, flag_wakes_all}
 use Rattle.kern_model.specs.Valid.{IsValid}
 use Rattle.kern_model.proofs.Laws.{update_task_at}
 use Rattle.kern_model.proofs.PostLaws.{PostKeeps, keeps-trans, keeps-refl, keeps-wakes}
-use Rattle.machine_core.specs.Steps.{is_readied, some_readied}
+use Rattle.machine_model.specs.Steps.{is_readied, some_readied}
 
 -- whether a task of the kernel waits for nothing
 abbrev pub waits_not : Kernel → ℕ → Bool

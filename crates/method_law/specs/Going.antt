@@ -4,13 +4,13 @@ use Rattle.kern_base.specs.declared.kinds.Method.TheVariants.{Direct, Deferred}
 use Rattle.kern_base.specs.declared.services.Service.{Service}
 use Rattle.kern_model.specs.Valid.{IsValid}
 use Rattle.app_image.specs.Image.{ImageRecord}
-use Rattle.machine_core.specs.declared.events.Event.{Event}
-use Rattle.machine_core.specs.Machine.{Machine}
-use Rattle.machine_core.specs.Rules.{next, switch_of}
-use Rattle.machine_core.specs.Looks.{look_at}
-use Rattle.machine_core.specs.Premises.{enters_by_step, enters_locked, loses_post, readies_interrupted}
-use Rattle.machine_core.specs.Text.{event_history, history_line}
-use Rattle.machine_core.specs.Words.{switch_words}
+use Rattle.machine_model.specs.declared.events.Event.{Event}
+use Rattle.machine_model.specs.Machine.{Machine}
+use Rattle.machine_model.specs.Rules.{next, switch_of}
+use Rattle.machine_model.specs.Looks.{look_at}
+use Rattle.machine_model.specs.Premises.{enters_by_step, enters_locked, loses_post, readies_interrupted}
+use Rattle.machine_model.specs.Text.{event_history, history_line}
+use Rattle.machine_model.specs.Words.{switch_words}
 use Rattle.method_law.specs.Modes.{Related}
 
 -- an event breaks none of the premises

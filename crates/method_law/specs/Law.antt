@@ -5,8 +5,8 @@ use Rattle.kern_base.specs.declared.services.Service.{Service}
 use Rattle.app_image.specs.Image.{ImageRecord, IsValidImage}
 use Rattle.app_image.specs.Layout.{HasWords}
 use Rattle.inject_list.specs.Lists.{ListRecord, IsValidList}
-use Rattle.machine_core.specs.Premises.{is_broken}
-use Rattle.machine_core.specs.Run.{run, history}
+use Rattle.machine_model.specs.Premises.{is_broken}
+use Rattle.machine_model.specs.Run.{run, history}
 
 -- For every valid image, whose numbers are words as those of every image of a program are, every valid list and every number
 -- of task steps: where the run by the deferred method breaks no premise, the task histories of the two runs are equal.

@@ -8,7 +8,7 @@ use Rattle.inject_list.specs.declared.lists.Look.{Look}
 use Rattle.deferred_queue.specs.Queue.{Queued}
 use Rattle.isr_nesting.specs.Frames.{FrameRecord}
 use Rattle.isr_nesting.specs.Marks.{post_marks}
-use Rattle.machine_core.specs.Machine.{Machine, Work, CallOf, UnitOf, TakeOf, WholeStep}
+use Rattle.machine_model.specs.Machine.{Machine, Work, CallOf, UnitOf, TakeOf, WholeStep}
 use Rattle.method_law.specs.Alike.{AgreeBut, has_mark}
 use Rattle.method_law.specs.Relation.{all_performed}
 

@@ -6,8 +6,8 @@ use Rattle.kern_base.specs.declared.services.Service.{Service}
 use Rattle.kern_model.specs.State.{Kernel}
 use Rattle.kern_model.specs.Services.{posted}
 use Rattle.rv32_exec.specs.Registers.{Registers}
-use Rattle.machine_core.specs.Answers.{arguments}
-use Rattle.machine_core.specs.Interrupts.{argument_words}
+use Rattle.machine_model.specs.Answers.{arguments}
+use Rattle.machine_model.specs.Interrupts.{argument_words}
 
 -- A post looks at the arguments of its service alone.
 abbrev pub PostsReadTheirArguments : Type 0

@@ -5,11 +5,11 @@ use Rattle.kern_base.specs.declared.services.Service.{Service}
 use Rattle.kern_model.specs.Valid.{IsValid}
 use Rattle.app_image.specs.Image.{ImageRecord}
 use Rattle.inject_list.specs.Lists.{ListRecord}
-use Rattle.machine_core.specs.Bound.{events_left}
-use Rattle.machine_core.specs.Machine.{Machine, start}
-use Rattle.machine_core.specs.Premises.{is_broken}
-use Rattle.machine_core.specs.Run.{run, history}
-use Rattle.machine_core.specs.Rules.{next}
+use Rattle.machine_model.specs.Bound.{events_left}
+use Rattle.machine_model.specs.Machine.{Machine, start}
+use Rattle.machine_model.specs.Premises.{is_broken}
+use Rattle.machine_model.specs.Run.{run, history}
+use Rattle.machine_model.specs.Rules.{next}
 
 -- the kernel is valid before each of so many events of the deferred run
 abbrev pub KernelsStayValid : (Service → Bool) → ℕ → Machine → Type 0

@@ -6,8 +6,8 @@ use Rattle.kern_model.specs.State.{Kernel}
 use Rattle.kern_model.specs.Valid.{IsValid}
 use Rattle.app_image.specs.declared.settings.Config.{Config}
 use Rattle.deferred_queue.specs.Queue.{Queued}
-use Rattle.machine_core.specs.Machine.{TakeOf, effect_of}
-use Rattle.machine_core.specs.Steps.{readies_same}
+use Rattle.machine_model.specs.Machine.{TakeOf, effect_of}
+use Rattle.machine_model.specs.Steps.{readies_same}
 use Rattle.method_law.specs.Relation.{performed}
 
 -- A take that readies no task of the priority that was saved with its post, where the literal insertion rule holds, does what

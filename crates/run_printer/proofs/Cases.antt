@@ -11,12 +11,12 @@ use Rattle.app_image.specs.declared.records.TaskDef.{TaskDef}
 use Rattle.app_image.specs.declared.records.ObjDef.{ObjDef}
 use Rattle.app_image.specs.declared.settings.Config.{Config}
 use Rattle.app_image.specs.Image.{ImageRecord}
-use Rattle.machine_core.specs.declared.events.Event.{Event}
-use Rattle.machine_core.specs.declared.events.What.{What}
-use Rattle.machine_core.specs.declared.events.What.TheVariants.{Quiet, Call, Ret, Gone, St, Trap, Tick, Tmr, Fire, Irq, Post, ICall, Exit, Take, Look}
-use Rattle.machine_core.specs.declared.events.How.TheVariants as how
+use Rattle.machine_model.specs.declared.events.Event.{Event}
+use Rattle.machine_model.specs.declared.events.What.{What}
+use Rattle.machine_model.specs.declared.events.What.TheVariants.{Quiet, Call, Ret, Gone, St, Trap, Tick, Tmr, Fire, Irq, Post, ICall, Exit, Take, Look}
+use Rattle.machine_model.specs.declared.events.How.TheVariants as how
 use Rattle.inject_list.specs.declared.lists.Seen.TheVariants.{Obj, Ready}
-use Rattle.machine_core.specs.Text.{event_text, end_line, event_history, end_history}
+use Rattle.machine_model.specs.Text.{event_text, end_line, event_history, end_history}
 
 task : TaskDef
 task = record { name = codes "a"; entry = 0; prio = 10; quanta = 0; qsize = 0; sp = 0x140000; line = 1 }

@@ -1,6 +1,6 @@
 -- The groups of events whose words are printed together.
-use Rattle.machine_core.specs.declared.events.What.{What}
-use Rattle.machine_core.specs.declared.events.What.TheVariants.{Start, Call, Ret, Wait, Gone, St, Trap, Tick, Tmr, Fire, Irq, Post, ICall, Exit, Take}
+use Rattle.machine_model.specs.declared.events.What.{What}
+use Rattle.machine_model.specs.declared.events.What.TheVariants.{Start, Call, Ret, Wait, Gone, St, Trap, Tick, Tmr, Fire, Irq, Post, ICall, Exit, Take}
 
 -- a task's call, its answer, or a wait in it
 abbrev pub IsOfCall : What → Type 0

@@ -4,14 +4,14 @@ ghost use Rattle.std.specs.Prelude.{ℕ, ◌≡◌, ◌++◌, ◌+◌, ◌≤◌
 ghost use Rattle.kern_base.specs.Errors.{error_name};
 ghost use Rattle.arrayvec.specs.ArrayVec.{array_vec_len};
 ghost use Rattle.app_image.specs.Image.{ImageRecord};
-ghost use Rattle.machine_core.specs.Words.{how_words, own_words, service_word};
-ghost use Rattle.machine_core.specs.Text.{spaced};
+ghost use Rattle.machine_model.specs.Words.{how_words, own_words, service_word};
+ghost use Rattle.machine_model.specs.Text.{spaced};
 ghost use Rattle.run_printer.specs.Groups.{IsOfFrame, IsOfPost};
 
 use crate::pieces::{Line, first, push_number, push_numbers, push_word};
 use crate::words::{push_error, push_service, trap_text};
 use kern_base::{OsErr, Service};
-use machine_core::{How, What};
+use machine_model::{How, What};
 
 /// Appends the words of an interrupt, or of what its frame does other than to post.
 pub fn push_frame_words(line: &mut Line, what: &What)

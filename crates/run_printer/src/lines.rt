@@ -2,8 +2,8 @@
 
 ghost use Rattle.std.specs.Prelude.{◌≡◌, ◌++◌, ◌+◌, ◌≤◌, [], ◌∷◌, codes, decimal};
 ghost use Rattle.arrayvec.specs.ArrayVec.{array_vec_len};
-ghost use Rattle.machine_core.specs.Words.{name_of, own_words, switch_words};
-ghost use Rattle.machine_core.specs.Text.{IsPrintable, spaced, event_text, end_line, line as line_text, in_history, history_words, history_line, event_history, end_history};
+ghost use Rattle.machine_model.specs.Words.{name_of, own_words, switch_words};
+ghost use Rattle.machine_model.specs.Text.{IsPrintable, spaced, event_text, end_line, line as line_text, in_history, history_words, history_line, event_history, end_history};
 
 use crate::interrupts::{push_frame_words, push_post_words};
 use crate::looks::push_look;
@@ -13,7 +13,7 @@ use crate::words::push_name;
 use app_image::Image;
 use arrayvec::ArrayVec;
 use kern_base::TaskId;
-use machine_core::{Event, What};
+use machine_model::{Event, What};
 
 /// Appends what one event prints: its own line, where it has one, and then its switch line, where the
 /// current task changed.

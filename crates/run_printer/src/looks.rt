@@ -2,8 +2,8 @@
 
 ghost use Rattle.std.specs.Prelude.{◌≡◌, ◌++◌, ◌+◌, ◌*◌, ◌<◌, ◌≤◌, [], ◌∷◌, length, map, codes, decimal};
 ghost use Rattle.arrayvec.specs.ArrayVec.{array_vec_len};
-ghost use Rattle.machine_core.specs.Words.{seen_word};
-ghost use Rattle.machine_core.specs.Text.{IsChain, spaced};
+ghost use Rattle.machine_model.specs.Words.{seen_word};
+ghost use Rattle.machine_model.specs.Text.{IsChain, spaced};
 
 use crate::pieces::{Line, push_number, push_word};
 use crate::words::push_seen;

@@ -2,7 +2,7 @@
 
 ghost use Rattle.std.specs.Prelude.{◌≡◌, ◌++◌, ◌+◌, ◌≤◌, [], ◌∷◌, length, map, take, decimal};
 ghost use Rattle.arrayvec.specs.ArrayVec.{array_vec_len};
-ghost use Rattle.machine_core.specs.Text.{spaced};
+ghost use Rattle.machine_model.specs.Text.{spaced};
 
 use arrayvec::ArrayVec;
 use itoa::Buffer;

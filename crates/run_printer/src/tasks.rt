@@ -2,15 +2,15 @@
 
 ghost use Rattle.std.specs.Prelude.{◌≡◌, ◌++◌, ◌+◌, ◌≤◌, [], ◌∷◌, length, map};
 ghost use Rattle.arrayvec.specs.ArrayVec.{array_vec_len};
-ghost use Rattle.machine_core.specs.Words.{entry_word, name_of, own_words, service_word, size_words, table_words};
-ghost use Rattle.machine_core.specs.Text.{spaced};
+ghost use Rattle.machine_model.specs.Words.{entry_word, name_of, own_words, service_word, size_words, table_words};
+ghost use Rattle.machine_model.specs.Text.{spaced};
 ghost use Rattle.run_printer.specs.Groups.{IsOfCall, IsOfTask, IsOfTime};
 
 use crate::pieces::{Line, first, push_bytes, push_digits, push_number, push_numbers, push_word};
 use crate::words::{push_error, push_name, push_object, push_service, push_who, trap_text};
 use app_image::Image;
 use kern_base::{Service, TaskId};
-use machine_core::What;
+use machine_model::What;
 
 /// Appends the words of a task's call, of its answer, or of a wait in it.
 pub fn push_call_words(line: &mut Line, what: &What, image: &Image)

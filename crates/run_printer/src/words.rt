@@ -3,8 +3,8 @@
 ghost use Rattle.std.specs.Prelude.{◌≡◌, ◌++◌, ◌+◌, ◌≤◌, ◌∷◌, length};
 ghost use Rattle.arrayvec.specs.ArrayVec.{array_vec_len};
 ghost use Rattle.kern_base.specs.Errors.{error_name};
-ghost use Rattle.machine_core.specs.Words.{internal_name, name_of, object_name, seen_word, service_word, trap_word, who_words};
-ghost use Rattle.machine_core.specs.Text.{spaced};
+ghost use Rattle.machine_model.specs.Words.{internal_name, name_of, object_name, seen_word, service_word, trap_word, who_words};
+ghost use Rattle.machine_model.specs.Text.{spaced};
 
 use crate::pieces::{Line, push_number, push_word};
 use app_image::Image;

@@ -11,7 +11,7 @@ use Rattle.kern_model.specs.Services.{program_serves}
 use Rattle.app_image.specs.Image.{ImageRecord}
 use Rattle.app_image.specs.Layout.{layout}
 use Rattle.inject_list.specs.Lists.{no_injections}
-use Rattle.machine_core.specs.Run.{run_text}
+use Rattle.machine_model.specs.Run.{run_text}
 use Rattle.ucos_top.specs.Case.{Case, Accepts, Refuses, case_of}
 use Rattle.ucos_top.specs.Listing.{listing}
 use Rattle.ucos_top.specs.Refusals.{refusal_line}

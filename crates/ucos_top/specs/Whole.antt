@@ -7,12 +7,12 @@ use Rattle.app_image.specs.Image.{ImageRecord}
 use Rattle.app_image.specs.Layout.{layout}
 use Rattle.inject_list.specs.Lists.{ListRecord}
 use Rattle.case_gen.specs.Generated.{generated, steps_for}
-use Rattle.machine_core.specs.declared.events.Event.{Event}
-use Rattle.machine_core.specs.declared.events.What.{What}
-use Rattle.machine_core.specs.declared.events.What.TheVariants.{Call}
-use Rattle.machine_core.specs.Text.{in_history}
-use Rattle.machine_core.specs.Run.{Run, run, run_text, history}
-use Rattle.machine_core.specs.Premises.{premise_lines, is_broken}
+use Rattle.machine_model.specs.declared.events.Event.{Event}
+use Rattle.machine_model.specs.declared.events.What.{What}
+use Rattle.machine_model.specs.declared.events.What.TheVariants.{Call}
+use Rattle.machine_model.specs.Text.{in_history}
+use Rattle.machine_model.specs.Run.{Run, run, run_text, history}
+use Rattle.machine_model.specs.Premises.{premise_lines, is_broken}
 use Rattle.ucos_top.specs.declared.TheConstants.{INPUT_LIMIT}
 use Rattle.ucos_top.specs.Commands.{AnyCommand, any_command}
 use Rattle.ucos_top.specs.Commands as command

@@ -4,8 +4,8 @@ ghost use Rattle.std.specs.Prelude.{◌≡◌, ◌≤◌};
 ghost use Rattle.outside.specs.Causes.{HasCause};
 ghost use Rattle.outside.specs.Written.{WritesPiece};
 ghost use Rattle.inject_list.specs.Lists.{no_injections};
-ghost use Rattle.machine_core.specs.Machine.{start};
-ghost use Rattle.machine_core.specs.Text.{IsPrintable, event_text};
+ghost use Rattle.machine_model.specs.Machine.{start};
+ghost use Rattle.machine_model.specs.Text.{IsPrintable, event_text};
 ghost use Rattle.ucos_top.specs.Answer.{printed};
 
 use crate::COUNT_LIMIT;

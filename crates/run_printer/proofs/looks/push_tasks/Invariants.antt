@@ -1,6 +1,6 @@
 use Rattle.std.proofs.Common.{◌≡◌, ◌++◌, ◌+◌, ◌*◌, ◌≤◌, length, map, drop, decimal}
 use Rattle.arrayvec.specs.ArrayVec.{array_vec_len}
-use Rattle.machine_core.specs.Text.{spaced}
+use Rattle.machine_model.specs.Text.{spaced}
 use Rattle.run_printer.proofs.looks.push_tasks.Given as goal
 
 -- what is appended, and what is left, are the numbers of all

@@ -1,7 +1,7 @@
 use Rattle.std.proofs.Common.{◌≡◌, ◌++◌, ◌+◌, ◌*◌, ◌≤◌, length, map, drop}
 use Rattle.arrayvec.specs.ArrayVec.{array_vec_len}
-use Rattle.machine_core.specs.Words.{entry_word}
-use Rattle.machine_core.specs.Text.{spaced}
+use Rattle.machine_model.specs.Words.{entry_word}
+use Rattle.machine_model.specs.Text.{spaced}
 use Rattle.run_printer.proofs.tasks.push_entries.Given as goal
 
 -- what is appended, and what is left, are the words of all

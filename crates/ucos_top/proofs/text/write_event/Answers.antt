@@ -1,6 +1,6 @@
 use Rattle.std.proofs.Common.{◌≡◌, ◌==◌, ℕ, List, [], ◌∷◌, length, true, refl, sym, ◌∙◌, arith, ne_eqb}
 use Rattle.std.proofs.KnownBytes.{Appends-nil}
-use Rattle.machine_core.specs.Text.{event_text}
+use Rattle.machine_model.specs.Text.{event_text}
 use Rattle.ucos_top.proofs.text.write_event.Goals as goal
 
 no_bytes : (bytes : List ℕ) → (length bytes == 0) ≡ true → bytes ≡ []

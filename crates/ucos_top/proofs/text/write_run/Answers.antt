@@ -5,12 +5,12 @@ use Rattle.outside.proofs.Known.{AppendsPrefix-after, WritesPiece-after}
 use Rattle.kern_base.specs.declared.kinds.Method.TheVariants.{Direct}
 use Rattle.kern_model.specs.Services.{program_serves}
 use Rattle.inject_list.specs.Lists.{no_injections}
-use Rattle.machine_core.specs.Rules.{next}
-use Rattle.machine_core.specs.Bound.{events_left}
-use Rattle.machine_core.specs.Run.{run_text}
-use Rattle.machine_core.specs.Text.{event_text, end_line}
-use Rattle.machine_core.proofs.CountLaws.{t-next}
-use Rattle.machine_core.proofs.RunLaws.{printed_nothing, printed_more, printed_all}
+use Rattle.machine_model.specs.Rules.{next}
+use Rattle.machine_model.specs.Bound.{events_left}
+use Rattle.machine_model.specs.Run.{run_text}
+use Rattle.machine_model.specs.Text.{event_text, end_line}
+use Rattle.machine_model.proofs.CountLaws.{t-next}
+use Rattle.machine_model.proofs.RunLaws.{printed_nothing, printed_more, printed_all}
 use Rattle.ucos_top.specs.Answer.{printed}
 use Rattle.ucos_top.proofs.text.write_run.Goals as goal
 

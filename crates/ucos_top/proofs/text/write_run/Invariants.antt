@@ -3,8 +3,8 @@ use Rattle.std.specs.Io.KnownBytes.{Appends}
 use Rattle.kern_base.specs.declared.kinds.Method.TheVariants.{Direct}
 use Rattle.kern_model.specs.Services.{program_serves}
 use Rattle.inject_list.specs.Lists.{no_injections}
-use Rattle.machine_core.specs.Bound.{events_left}
-use Rattle.machine_core.proofs.RunLaws.{HasPrinted}
+use Rattle.machine_model.specs.Bound.{events_left}
+use Rattle.machine_model.proofs.RunLaws.{HasPrinted}
 use Rattle.ucos_top.proofs.text.write_run.Given as goal
 
 -- what was printed so far is written, and the run goes on from this machine

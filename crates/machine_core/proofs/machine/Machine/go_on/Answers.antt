@@ -1,12 +1,12 @@
 use Rattle.std.proofs.Common.{rules, ◌≡◌, ◌<◌, ◌+◌, ℕ, None, sym, ap, ◌∙◌, subst}
-use Rattle.machine_core.specs.Machine.{Machine}
+use Rattle.machine_model.specs.Machine.{Machine}
 use Rattle.kern_base.specs.declared.kinds.Method.TheVariants.{Direct}
 use Rattle.kern_model.specs.Services.{program_serves}
-use Rattle.machine_core.specs.Answers.{Change}
-use Rattle.machine_core.specs.Rules.{done, rule_in_hand}
+use Rattle.machine_model.specs.Answers.{Change}
+use Rattle.machine_model.specs.Rules.{done, rule_in_hand}
 use Rattle.machine_core.specs.Valid.{IsCalm, IsSound}
 use Rattle.machine_core.specs.MachineView.{machine_of}
-use Rattle.machine_core.proofs.CountLaws.{counts-done}
+use Rattle.machine_model.proofs.CountLaws.{counts-done}
 use Rattle.machine_core.proofs.MachineFacts.{raw-kept, at_rest}
 use Rattle.machine_core.proofs.machine.Machine.go_on.Goals as goal
 use Rattle.machine_core.proofs.machine.Machine.go_on.Goals.{then-is_some, else-is_some}

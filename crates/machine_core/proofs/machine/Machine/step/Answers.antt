@@ -1,7 +1,7 @@
 use Rattle.std.proofs.Common.{rules, ◌≡◌, subst}
 use Rattle.kern_base.specs.declared.kinds.Method.TheVariants.{Direct}
 use Rattle.kern_model.specs.Services.{program_serves}
-use Rattle.machine_core.specs.Rules.{next}
+use Rattle.machine_model.specs.Rules.{next}
 use Rattle.machine_core.specs.Valid.{IsSound}
 use Rattle.machine_core.proofs.PrintLaws.{printable-next}
 use Rattle.machine_core.proofs.StepLaws.{events_left-next}

@@ -15,13 +15,13 @@ use Rattle.rv32_exec.specs.declared.TrapKind.{TrapKind}
 use Rattle.rv32_exec.specs.declared.Stepped.{Stepped}
 use Rattle.rv32_exec.specs.declared.Stepped.TheVariants.{Next, Call, Trap, Stored}
 use Rattle.tcb_pool.specs.declared.tables.TheConstants.{LEAVE}
-use Rattle.machine_core.specs.declared.events.What.{What}
-use Rattle.machine_core.specs.declared.events.What.TheVariants.{Quiet, Call as CallLine, St, Trap as TrapLine}
-use Rattle.machine_core.specs.Machine.{Machine, CallOf, UnitOf, registers_at, after_step}
-use Rattle.machine_core.specs.Answers.{Change, task_id, arguments, with_answer, with_table, entries, returned}
-use Rattle.machine_core.specs.Interrupts.{argument_words}
-use Rattle.machine_core.specs.Settling.{settled}
-use Rattle.machine_core.specs.Steps.{begins}
+use Rattle.machine_model.specs.declared.events.What.{What}
+use Rattle.machine_model.specs.declared.events.What.TheVariants.{Quiet, Call as CallLine, St, Trap as TrapLine}
+use Rattle.machine_model.specs.Machine.{Machine, CallOf, UnitOf, registers_at, after_step}
+use Rattle.machine_model.specs.Answers.{Change, task_id, arguments, with_answer, with_table, entries, returned}
+use Rattle.machine_model.specs.Interrupts.{argument_words}
+use Rattle.machine_model.specs.Settling.{settled}
+use Rattle.machine_model.specs.Steps.{begins}
 
 -- the result of a call in which task x waited, written to its registers, and to the table where it has one
 abbrev pub finishes : ℕ → Finished → Machine → Change

@@ -12,12 +12,12 @@ use Rattle.rv32_exec.specs.Registers.{Registers}
 use Rattle.app_image.specs.declared.settings.Config.{Config}
 use Rattle.tcb_pool.specs.declared.tables.TheConstants.{LEAVE}
 use Rattle.deferred_queue.specs.Queue.{Queued, without_front}
-use Rattle.machine_core.specs.declared.events.What.{What}
-use Rattle.machine_core.specs.declared.events.What.TheVariants.{Quiet, Wait, Gone, Tick, Tmr, Fire, Take}
-use Rattle.machine_core.specs.Machine.{Machine, Work, CallOf, UnitOf, TakeOf, WholeStep, effect_of, registers_at, after_step}
-use Rattle.machine_core.specs.Answers.{Change, task_id, arguments, with_answer, with_table, entries, returned}
-use Rattle.machine_core.specs.Interrupts.{answer_in}
-use Rattle.machine_core.specs.Settling.{settled}
+use Rattle.machine_model.specs.declared.events.What.{What}
+use Rattle.machine_model.specs.declared.events.What.TheVariants.{Quiet, Wait, Gone, Tick, Tmr, Fire, Take}
+use Rattle.machine_model.specs.Machine.{Machine, Work, CallOf, UnitOf, TakeOf, WholeStep, effect_of, registers_at, after_step}
+use Rattle.machine_model.specs.Answers.{Change, task_id, arguments, with_answer, with_table, entries, returned}
+use Rattle.machine_model.specs.Interrupts.{answer_in}
+use Rattle.machine_model.specs.Settling.{settled}
 
 -- nothing is in hand any more, and a task step is done
 abbrev pub free : Kernel → Machine → Machine

@@ -7,10 +7,10 @@ use Rattle.kern_model.specs.Services.{half}
 use Rattle.inject_list.specs.declared.lists.Look.{Look}
 use Rattle.inject_list.specs.declared.lists.Seen.{Seen}
 use Rattle.inject_list.specs.declared.lists.Seen.TheVariants.{Obj, Ready}
-use Rattle.machine_core.specs.declared.events.What.{What}
-use Rattle.machine_core.specs.declared.events.What.TheVariants.{Look as LookLine}
-use Rattle.machine_core.specs.Machine.{Machine, WholeStep, effect_of}
-use Rattle.machine_core.specs.Answers.{Change}
+use Rattle.machine_model.specs.declared.events.What.{What}
+use Rattle.machine_model.specs.declared.events.What.TheVariants.{Look as LookLine}
+use Rattle.machine_model.specs.Machine.{Machine, WholeStep, effect_of}
+use Rattle.machine_model.specs.Answers.{Change}
 
 -- the first of the looks that have this moment
 abbrev pub look_at : ℕ → List Look → Option Look

@@ -1,7 +1,7 @@
 -- How many events are still to come at most.
 use Rattle.std.specs.Prelude.{ℕ, ◌+◌, ◌-◌, ◌*◌, Bool, List, [], ◌∷◌, length, Option, Some, None, if◌then◌else◌}
 use Rattle.isr_nesting.specs.Frames.{FrameRecord}
-use Rattle.machine_core.specs.Machine.{Machine, WholeStep}
+use Rattle.machine_model.specs.Machine.{Machine, WholeStep}
 
 -- how many micro-steps a whole step has at most
 abbrev pub most_micro_steps : ℕ

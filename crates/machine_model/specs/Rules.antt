@@ -10,16 +10,16 @@ use Rattle.deferred_queue.specs.Queue.{Queued, front}
 use Rattle.isr_nesting.specs.Frames.{FrameRecord}
 use Rattle.isr_nesting.specs.Due.{Place, due}
 use Rattle.isr_nesting.specs.Marks.{reads_result}
-use Rattle.machine_core.specs.declared.events.Event.{Event}
-use Rattle.machine_core.specs.declared.events.How.TheVariants as how
-use Rattle.machine_core.specs.declared.events.What.TheVariants.{Quiet, Start}
-use Rattle.machine_core.specs.Machine.{Machine, WholeStep, TakeOf}
-use Rattle.machine_core.specs.Answers.{Change, task_id}
-use Rattle.machine_core.specs.Settling.{is_free, none_waits}
-use Rattle.machine_core.specs.Interrupts.{enters, leaves, frame_runs}
-use Rattle.machine_core.specs.Steps.{advances, begins}
-use Rattle.machine_core.specs.Acts.{acts}
-use Rattle.machine_core.specs.Looks.{look_at, looks}
+use Rattle.machine_model.specs.declared.events.Event.{Event}
+use Rattle.machine_model.specs.declared.events.How.TheVariants as how
+use Rattle.machine_model.specs.declared.events.What.TheVariants.{Quiet, Start}
+use Rattle.machine_model.specs.Machine.{Machine, WholeStep, TakeOf}
+use Rattle.machine_model.specs.Answers.{Change, task_id}
+use Rattle.machine_model.specs.Settling.{is_free, none_waits}
+use Rattle.machine_model.specs.Interrupts.{enters, leaves, frame_runs}
+use Rattle.machine_model.specs.Steps.{advances, begins}
+use Rattle.machine_model.specs.Acts.{acts}
+use Rattle.machine_model.specs.Looks.{look_at, looks}
 
 -- the rules in their order: the first that applies gives the next event
 pub data Rule : Type 0 where

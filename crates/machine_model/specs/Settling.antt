@@ -2,7 +2,7 @@
 use Rattle.std.specs.Prelude.{ℕ, Bool, true, false, ◌&&◌, List, [], ◌∷◌, Option, Some, None, if◌then◌else◌, ◌==◌}
 use Rattle.kern_model.specs.State.{Kernel, pick}
 use Rattle.deferred_queue.specs.Queue.{Queued}
-use Rattle.machine_core.specs.Machine.{Machine, WholeStep}
+use Rattle.machine_model.specs.Machine.{Machine, WholeStep}
 
 -- whether no post waits
 abbrev pub none_waits : List Queued → Bool

@@ -5,11 +5,11 @@ use Rattle.kern_base.specs.declared.kinds.Method.{Method}
 use Rattle.kern_base.specs.declared.services.Service.{Service}
 use Rattle.app_image.specs.Image.{ImageRecord}
 use Rattle.inject_list.specs.Lists.{ListRecord}
-use Rattle.machine_core.specs.Machine.{Machine, start}
-use Rattle.machine_core.specs.Rules.{next}
-use Rattle.machine_core.specs.Text.{event_text, end_line}
-use Rattle.machine_core.specs.Bound.{events_left}
-use Rattle.machine_core.specs.Run.{run_on, run_text, text}
+use Rattle.machine_model.specs.Machine.{Machine, start}
+use Rattle.machine_model.specs.Rules.{next}
+use Rattle.machine_model.specs.Text.{event_text, end_line}
+use Rattle.machine_model.specs.Bound.{events_left}
+use Rattle.machine_model.specs.Run.{run_on, run_text, text}
 
 -- A run has printed this so far, and stands at this machine.
 pub record HasPrinted (served : Service → Bool) (method : Method) (image : ImageRecord) (list : ListRecord) (n : ℕ) (front : List ℕ) (m : Machine) : Type 0 where

@@ -4,10 +4,10 @@ use Rattle.std.specs.Prelude.{ℕ, Bool, true, false, ◌||◌, List, [], ◌∷
 use Rattle.kern_base.specs.declared.errors.OsErr.{OsErr}
 use Rattle.kern_base.specs.declared.errors.OsErr.TheVariants.{InterruptQueueFull}
 use Rattle.app_image.specs.Image.{ImageRecord}
-use Rattle.machine_core.specs.declared.events.Event.{Event}
-use Rattle.machine_core.specs.declared.events.What.{What}
-use Rattle.machine_core.specs.declared.events.What.TheVariants.{Irq, Post, Take}
-use Rattle.machine_core.specs.Run.{Run}
+use Rattle.machine_model.specs.declared.events.Event.{Event}
+use Rattle.machine_model.specs.declared.events.What.{What}
+use Rattle.machine_model.specs.declared.events.What.TheVariants.{Irq, Post, Take}
+use Rattle.machine_model.specs.Run.{Run}
 
 -- an interrupt enters whose moment is in raw steps
 abbrev pub enters_by_step : What → Bool

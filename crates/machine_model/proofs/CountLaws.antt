@@ -18,15 +18,15 @@ use Rattle.rv32_exec.specs.declared.Stepped.TheVariants.{Next, Call, Trap, Store
 use Rattle.tcb_pool.specs.declared.tables.TheConstants.{LEAVE}
 use Rattle.isr_nesting.specs.Frames.{FrameRecord, none_stands}
 use Rattle.isr_nesting.specs.Marks.{marks_after, next_instruction}
-use Rattle.machine_core.specs.declared.events.How.TheVariants as how
-use Rattle.machine_core.specs.declared.events.What.TheVariants.{Quiet}
-use Rattle.machine_core.specs.Machine.{Machine, Work, CallOf, UnitOf, TakeOf, WholeStep, registers_at, effect_of}
-use Rattle.machine_core.specs.Answers.{Change}
-use Rattle.machine_core.specs.Settling.{settled, is_free}
-use Rattle.machine_core.specs.Interrupts.{without_top, leaves, frame_goes_on, frame_calls, frame_posts, frame_refused, frame_did, interrupt_error, argument_words, ran}
-use Rattle.machine_core.specs.Steps.{call_ends, unit_ends, ends, advances}
-use Rattle.machine_core.specs.Acts.{acts, instructs, idles, starts_unit, works_in_units}
-use Rattle.machine_core.specs.Rules.{Rule, Begins, Looks, Enters, FrameLimit, FrameRuns, MicroStep, TakeBegins, TaskActs, rule, done, next}
+use Rattle.machine_model.specs.declared.events.How.TheVariants as how
+use Rattle.machine_model.specs.declared.events.What.TheVariants.{Quiet}
+use Rattle.machine_model.specs.Machine.{Machine, Work, CallOf, UnitOf, TakeOf, WholeStep, registers_at, effect_of}
+use Rattle.machine_model.specs.Answers.{Change}
+use Rattle.machine_model.specs.Settling.{settled, is_free}
+use Rattle.machine_model.specs.Interrupts.{without_top, leaves, frame_goes_on, frame_calls, frame_posts, frame_refused, frame_did, interrupt_error, argument_words, ran}
+use Rattle.machine_model.specs.Steps.{call_ends, unit_ends, ends, advances}
+use Rattle.machine_model.specs.Acts.{acts, instructs, idles, starts_unit, works_in_units}
+use Rattle.machine_model.specs.Rules.{Rule, Begins, Looks, Enters, FrameLimit, FrameRuns, MicroStep, TakeBegins, TaskActs, rule, done, next}
 
 -- what holds of both outcomes of a choice
 pub choice : {A : Type 0} (P : A → Type 0) (b : Bool) (x y : A) → P x → P y → P (if b then x else y)

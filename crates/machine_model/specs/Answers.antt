@@ -9,9 +9,9 @@ use Rattle.kern_base.specs.declared.outcomes.Answer.{Answer}
 use Rattle.kern_base.specs.declared.outcomes.Finished.{Finished}
 use Rattle.rv32_exec.specs.Registers.{Registers, written}
 use Rattle.rv32_exec.specs.Memory.{with_word}
-use Rattle.machine_core.specs.declared.events.What.{What}
-use Rattle.machine_core.specs.declared.events.What.TheVariants.{Ret}
-use Rattle.machine_core.specs.Machine.{Machine}
+use Rattle.machine_model.specs.declared.events.What.{What}
+use Rattle.machine_model.specs.declared.events.What.TheVariants.{Ret}
+use Rattle.machine_model.specs.Machine.{Machine}
 
 -- what happened, and the machine after it
 pub record Change : Type 0 where

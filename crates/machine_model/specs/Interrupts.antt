@@ -24,12 +24,12 @@ use Rattle.deferred_queue.specs.Queue.{Queued, queued}
 use Rattle.isr_nesting.specs.Frames.{FrameRecord, entered, none_stands}
 use Rattle.isr_nesting.specs.Due.{Place, taken_at, is_step}
 use Rattle.isr_nesting.specs.Marks.{marks_after, next_instruction, post_marks}
-use Rattle.machine_core.specs.declared.events.How.{How}
-use Rattle.machine_core.specs.declared.events.How.TheVariants as how
-use Rattle.machine_core.specs.declared.events.What.TheVariants.{Quiet, St, Irq, Post, ICall, Exit}
-use Rattle.machine_core.specs.Machine.{Machine}
-use Rattle.machine_core.specs.Answers.{Change, arguments}
-use Rattle.machine_core.specs.Settling.{settled, is_free}
+use Rattle.machine_model.specs.declared.events.How.{How}
+use Rattle.machine_model.specs.declared.events.How.TheVariants as how
+use Rattle.machine_model.specs.declared.events.What.TheVariants.{Quiet, St, Irq, Post, ICall, Exit}
+use Rattle.machine_model.specs.Machine.{Machine}
+use Rattle.machine_model.specs.Answers.{Change, arguments}
+use Rattle.machine_model.specs.Settling.{settled, is_free}
 
 -- an interrupt enters: its frame stands on top
 abbrev pub enters : Place → Machine → Change

@@ -4,11 +4,11 @@ use Rattle.kern_base.specs.declared.kinds.Method.{Method}
 use Rattle.kern_base.specs.declared.services.Service.{Service}
 use Rattle.app_image.specs.Image.{ImageRecord}
 use Rattle.inject_list.specs.Lists.{ListRecord}
-use Rattle.machine_core.specs.declared.events.Event.{Event}
-use Rattle.machine_core.specs.Machine.{Machine, start}
-use Rattle.machine_core.specs.Rules.{next}
-use Rattle.machine_core.specs.Bound.{events_left}
-use Rattle.machine_core.specs.Text.{event_text, end_line, event_history, end_history}
+use Rattle.machine_model.specs.declared.events.Event.{Event}
+use Rattle.machine_model.specs.Machine.{Machine, start}
+use Rattle.machine_model.specs.Rules.{next}
+use Rattle.machine_model.specs.Bound.{events_left}
+use Rattle.machine_model.specs.Text.{event_text, end_line, event_history, end_history}
 
 -- the events of a run, and the machine at its end
 pub record Run : Type 0 where

@@ -12,10 +12,10 @@ use Rattle.app_image.specs.declared.records.ObjDef.{ObjDef}
 use Rattle.app_image.specs.Image.{ImageRecord}
 use Rattle.inject_list.specs.declared.lists.Seen.{Seen}
 use Rattle.inject_list.specs.declared.lists.Seen.TheVariants.{Obj, Ready}
-use Rattle.machine_core.specs.declared.events.How.{How}
-use Rattle.machine_core.specs.declared.events.How.TheVariants as how
-use Rattle.machine_core.specs.declared.events.What.{What}
-use Rattle.machine_core.specs.declared.events.What.TheVariants.{Quiet, Start, Call, Ret, Wait, Gone, St, Trap, Tick, Tmr, Fire, Irq, Post, ICall, Exit, Take, Look}
+use Rattle.machine_model.specs.declared.events.How.{How}
+use Rattle.machine_model.specs.declared.events.How.TheVariants as how
+use Rattle.machine_model.specs.declared.events.What.{What}
+use Rattle.machine_model.specs.declared.events.What.TheVariants.{Quiet, Start, Call, Ret, Wait, Gone, St, Trap, Tick, Tmr, Fire, Irq, Post, ICall, Exit, Take, Look}
 
 -- Names and single words.
 

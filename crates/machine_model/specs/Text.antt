@@ -1,10 +1,10 @@
 -- The printed lines of an event, and its lines in a history.
 use Rattle.std.specs.Prelude.{ℕ, ◌≤◌, ◌<◌, Bool, true, false, if◌then◌else◌, List, [], ◌∷◌, ◌++◌, length, take, All, flat_map, codes, decimal}
 use Rattle.app_image.specs.Image.{ImageRecord}
-use Rattle.machine_core.specs.declared.events.Event.{Event}
-use Rattle.machine_core.specs.declared.events.What.{What}
-use Rattle.machine_core.specs.declared.events.What.TheVariants.{Quiet, Post, ICall, Exit, Take, Look}
-use Rattle.machine_core.specs.Words.{own_words, switch_words}
+use Rattle.machine_model.specs.declared.events.Event.{Event}
+use Rattle.machine_model.specs.declared.events.What.{What}
+use Rattle.machine_model.specs.declared.events.What.TheVariants.{Quiet, Post, ICall, Exit, Take, Look}
+use Rattle.machine_model.specs.Words.{own_words, switch_words}
 
 -- the words, each behind a blank
 abbrev pub spaced : List (List ℕ) → List ℕ

@@ -11,7 +11,7 @@ use Rattle.app_image.specs.declared.records.TaskDef.{TaskDef}
 use Rattle.app_image.specs.declared.records.ObjDef.{ObjDef}
 use Rattle.app_image.specs.declared.settings.Config.{Config}
 use Rattle.app_image.specs.Image.{ImageRecord}
-use Rattle.machine_core.specs.Run.{run_text}
+use Rattle.machine_model.specs.Run.{run_text}
 
 -- a task with its name, entry, priority and stack pointer, and a semaphore with its name and count
 abbrev task : List ℕ → ℕ → ℕ → ℕ → TaskDef

@@ -1,0 +1,13 @@
+pub mod Words
+pub mod Text
+pub mod Machine
+pub mod Answers
+pub mod Settling
+pub mod Interrupts
+pub mod Steps
+pub mod Acts
+pub mod Looks
+pub mod Rules
+pub mod Bound
+pub mod Run
+pub mod Premises
