@@ -3,10 +3,9 @@ use Rattle.std.specs.Prelude.{◌==◌}
 use Rattle.std.proofs.Common.{◌≡◌, ◌<◌, ℕ, Bool, false, None, refl, arith, ne_eqb}
 use Rattle.kern_base.specs.declared.services.Service.{Service}
 use Rattle.kern_model.specs.State.{Kernel, tick_task, timer_task, idle_task}
-use Rattle.kern_model.specs.Stop.{stopped}
 use Rattle.rv32_exec.specs.Exec.{exec}
 use Rattle.machine_model.specs.Machine.{Machine, registers_at}
-use Rattle.machine_model.specs.Acts.{acts, instructs, works_in_units, after_instruction, trapped}
+use Rattle.machine_model.specs.Acts.{acts, instructs, works_in_units}
 
 -- its number is another than that of a later task
 other : (x n : ℕ) → x < n → (x == n) ≡ false
@@ -23,15 +22,3 @@ pub acts-application : (served : Service → Bool) (x : ℕ) (m : Machine) → x
 acts-application served x m p =
     let idle : (x == idle_task) ≡ false = other x 62 (omega (arith, p)) in
     rw (idle, works-application x m.kernel p) refl
-
--- which leaves the kernel as it is
-pub after-application : (x pc : ℕ) (k : Kernel) → x < 60 → after_instruction x pc k ≡ k
-after-application x pc k p =
-    let timer : (x == timer_task) ≡ false = other x 61 (omega (arith, p)) in
-    rw timer refl
-
--- or a trap stops it
-pub trapped-application : (x : ℕ) (k : Kernel) → x < 60 → trapped x k ≡ stopped x k
-trapped-application x k p =
-    let timer : (x == timer_task) ≡ false = other x 61 (omega (arith, p)) in
-    rw timer refl

@@ -1,10 +1,11 @@
-pub mod CalmLaws
 pub mod ApplicationLaws
-pub mod StepLaws
-pub mod PickLaws
+pub mod ActingLaws
 pub mod StillLaws
 pub mod OutcomeLaws
 pub mod PrintLaws
-pub mod SoundLaws
+pub mod KeptLaws
 pub mod MachineFacts
-pub mod EndLaws
+pub mod StartFacts
+pub mod QuietExec
+pub mod ComingLaws
+pub mod FrameFacts

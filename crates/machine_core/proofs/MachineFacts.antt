@@ -1,43 +1,89 @@
--- What the machine's fields come to with a micro-step.
+-- What the machine's fields come to, act by act.
 use Rattle.std.specs.Prelude.{◌==◌}
-use Rattle.std.proofs.Common.{◌≡◌, ◌<◌, ℕ, ◌+◌, true, false, List, [], Option, Some, None, refl, sym, ap, ◌∙◌, subst, arith, eq-eqb, ne_eqb}
+use Rattle.std.proofs.Common.{◌≡◌, ◌<◌, ℕ, ◌+◌, Bool, true, false, List, [], Option, Some, None, refl, sym, ap, ◌∙◌, arith, eq-eqb, ne_eqb}
 use Rattle.kern_base.specs.declared.numbers.TaskId.{TaskId}
 use Rattle.kern_base.specs.declared.kinds.Method.TheVariants.{Direct}
+use Rattle.kern_base.specs.declared.services.Service.{Service}
 use Rattle.kern_base.specs.declared.outcomes.Finished.{Finished}
 use Rattle.kern_base.specs.declared.outcomes.Outcome.{Outcome}
 use Rattle.kern_base.specs.declared.outcomes.Outcome.TheVariants.{Answered, Waits, Gone, Quiet}
 use Rattle.kern_model.specs.State.{Kernel, task_at}
 use Rattle.kern_model.specs.Effect.{Effect}
+use Rattle.kern_model.specs.Finish.{finished}
 use Rattle.kern_model.specs.Valid.{has_result}
 use Rattle.kern_model.specs.Services.{effect, program_serves, cost}
 use Rattle.kernel_calls.specs.KernelRecord.{KernelRecord, with_state}
 use Rattle.kernel_calls.specs.Works.{WorkRecord, effect_of, stepped}
 use Rattle.machine_core.specs.declared.machine.InHand.{InHand}
 use Rattle.machine_core.specs.declared.machine.Machine.TheInside.{Inside}
-use Rattle.machine_model.specs.Machine.{Machine}
-use Rattle.machine_model.specs.Answers.{with_table}
+use Rattle.machine_model.specs.Machine.{Machine, WholeStep, CallOf, registers_at}
+use Rattle.kern_base.specs.declared.requests.Request.{Request}
+use Rattle.kern_model.specs.State.{prio_of}
+use Rattle.machine_model.specs.declared.events.What.{What}
+use Rattle.rv32_exec.specs.Registers.{Registers}
+use Rattle.rv32_exec.specs.Exec.{Execution, exec}
+use Rattle.rv32_exec.specs.declared.Stepped.{Stepped}
+use Rattle.rv32_exec.specs.declared.Stepped.TheVariants.{Call}
+use Rattle.std.specs.Prelude.{slice_set}
+use Rattle.std.proofs.Common.{◌<◌}
+use Rattle.machine_core.proofs.ApplicationLaws.{acts-application}
+use Rattle.machine_model.specs.Answers.{Change, with_table}
 use Rattle.machine_model.specs.Settling.{settled_task}
 use Rattle.machine_model.specs.Steps.{advances, call_ends}
-use Rattle.machine_model.specs.Acts.{acts}
-use Rattle.machine_model.specs.Rules.{Rule, TaskActs, done, rule_in_hand}
+use Rattle.machine_model.specs.Acts.{acts, calls, called, instructs, request_of}
+use Rattle.machine_model.specs.Rules.{Rule, Begins, MicroStep, TaskActs, rule, raw, done, rule_in_hand, rule_of_post}
+use Rattle.machine_laws.specs.Valid.{IsInHand}
 use Rattle.machine_core.specs.AnswerView.{ended_kernel, finished_by, finished_kernel, HasNoTable}
 use Rattle.machine_core.specs.MachineView.{machine_of, step_of, hand_of, IsKept, IsBegunHere, IsBegunOn}
-use Rattle.machine_core.specs.Valid.{IsSound, IsCalm, IsCallUnderWay, most_task_steps}
-use Rattle.machine_model.proofs.CountLaws.{counts-done}
-use Rattle.machine_core.proofs.CalmLaws.{calm_rule, rule-in_hand}
+use Rattle.machine_core.specs.Valid.{IsStill, most_task_steps, change}
 use Rattle.machine_core.proofs.OutcomeLaws.{plain-effect}
-use Rattle.machine_core.proofs.SoundLaws.{sound-advances, sound-acts, sound-raw}
+use Rattle.machine_core.proofs.StillLaws.{still-effect, still-finished}
+use Rattle.machine_core.proofs.KeptLaws.{kept-change}
+
+-- The rule that applies.
+
+-- no frame stands and nothing comes
+abbrev pub GoesOn : Machine → Type 0
+GoesOn m = rule Direct m ≡ rule_in_hand m.in_hand m
+
+pub by_rule : (m : Machine) (r : Rule) → rule Direct m ≡ r → change m ≡ done program_serves Direct r m
+by_rule m r e = ap (λ q. done program_serves Direct q m) e
+
+-- the first event names the first task
+pub first-change : (m : Machine) → m.begun ≡ false → change m ≡ done program_serves Direct Begins m
+first-change m e = by_rule m Begins (rw e refl)
+
+no_post : (b : Bool) → rule_of_post b None ≡ TaskActs
+no_post true = refl
+no_post false = refl
+
+-- which takes one raw step, as a micro-step does
+raw_one : (o : Option WholeStep) (m : Machine) → m.later ≡ [] → raw (rule_in_hand o m) ≡ 1
+raw_one (Some w) m e = refl
+raw_one None m e = rw (e, no_post (m.kernel.lock == 0)) refl
+
+pub raw-goes_on : (a : Inside) → GoesOn (machine_of a) → raw (rule Direct (machine_of a)) ≡ 1
+raw-goes_on a e = ap raw e ∙ raw_one (hand_of a.in_hand) (machine_of a) refl
+
+-- with nothing in hand no work was begun
+pub none_begun : (o : Option InHand) (k : Kernel) → hand_of o ≡ None → IsBegunOn o k
+none_begun None k e = tt
+none_begun (Some h) k e = cc
+
+-- The whole step in hand.
 
 -- the work in hand was begun on this kernel
 pub begun_in : (a : Inside) (h : InHand) → IsKept a → a.in_hand ≡ Some h → IsBegunHere h.work a.kernel.state
 begun_in a h k e = rw e at k.work
 
--- and its whole step is under way
-under_way_in : (a : Inside) (h : InHand) → IsKept a → a.in_hand ≡ Some h → IsCallUnderWay h.work.caller h.work.request h.work.compared h.work.done a.current.0 a.kernel.state
-under_way_in a h k e = rw e at k.sound.acts
+stands_in : (a : Inside) (h : InHand) → IsKept a → a.in_hand ≡ Some h → IsInHand program_serves a.config (step_of h) a.kernel.state a.current.0 []
+stands_in a h k e = rw e at k.valid.stands
 
-in_hand_is : (a : Inside) (h : InHand) → a.in_hand ≡ Some h → (machine_of a).in_hand ≡ Some (step_of h)
-in_hand_is a h e = ap hand_of e
+advanced : (a : Inside) (h : InHand) → GoesOn (machine_of a) → a.in_hand ≡ Some h → change (machine_of a) ≡ advances program_serves (step_of h) (machine_of a)
+advanced a h r e =
+    let hand : (machine_of a).in_hand ≡ Some (step_of h) = ap hand_of e in
+    let micro : rule Direct (machine_of a) ≡ MicroStep (step_of h) = r ∙ ap (λ o. rule_in_hand o (machine_of a)) hand in
+    by_rule (machine_of a) (MicroStep (step_of h)) micro
 
 -- what it does in all, as the machine's definition has it
 abbrev effect_in : WorkRecord → Kernel → Effect
@@ -58,16 +104,13 @@ none_left w k b p =
     eq-eqb (w.done + 1) (cost (effect_in w k) k) (omega (arith, total, p))
 
 -- a micro-step that is not the last
-pub more-machine : (a : Inside) (h g : InHand) → IsKept a → a.in_hand ≡ Some h → 1 < h.work.left → g.work ≡ stepped h.work → machine_of (record a { in_hand = Some g }) ≡ (done program_serves Direct (rule_in_hand (machine_of a).in_hand (machine_of a)) (machine_of a)).machine
-more-machine a h g k e p s = rw (e, more_left h.work a.kernel.state (begun_in a h k e) p, s) refl
+pub more-machine : (a : Inside) (h g : InHand) → IsKept a → GoesOn (machine_of a) → a.in_hand ≡ Some h → 1 < h.work.left → g.work ≡ stepped h.work → machine_of (record a { in_hand = Some g }) ≡ (change (machine_of a)).machine
+more-machine a h g k r e p s =
+    let goes_on : machine_of (record a { in_hand = Some g }) ≡ (advances program_serves (step_of h) (machine_of a)).machine = rw (more_left h.work a.kernel.state (begun_in a h k e) p, s) refl in
+    goes_on ∙ ap (λ (c : Change). c.machine) (sym (advanced a h r e))
 
-pub more-kept : (a : Inside) (h g : InHand) → IsKept a → a.in_hand ≡ Some h → a.t < most_task_steps → 1 < h.work.left → g.work ≡ stepped h.work → IsBegunHere g.work a.kernel.state → IsKept (record a { in_hand = Some g })
-more-kept a h g k e open_yet p s b =
-    let moved : (done program_serves Direct (rule_in_hand (machine_of a).in_hand (machine_of a)) (machine_of a)).machine ≡ (advances program_serves (step_of h) (machine_of a)).machine = rw e refl in
-    record {
-      sound = subst IsSound (sym (more-machine a h g k e p s ∙ moved)) (sound-advances (step_of h) (machine_of a) k.sound (in_hand_is a h e) open_yet);
-      work = b;
-    }
+pub more-kept : (a : Inside) (h g : InHand) → IsKept a → GoesOn (machine_of a) → a.in_hand ≡ Some h → a.t < most_task_steps → 1 < h.work.left → g.work ≡ stepped h.work → IsBegunHere g.work a.kernel.state → IsKept (record a { in_hand = Some g })
+more-kept a h g k r e open_yet p s b = kept-change a (record a { in_hand = Some g }) k open_yet (more-machine a h g k r e p s) k.still b k.vectors
 
 -- the last micro-step, by its outcome
 
@@ -78,66 +121,74 @@ ended Waits k h a n current plain caller e settles = rw (settles, e) refl
 ended Gone k h a n current plain caller e settles = rw (settles, e) refl
 ended (Quiet u) k h a n current plain caller e settles = rw (settles, e) refl
 
-pub last-machine : (a : Inside) (h : InHand) (n : KernelRecord) (current : TaskId) → IsKept a → a.in_hand ≡ Some h → h.work.left ≡ 1
-    → n ≡ ended_kernel (with_state a.kernel (effect_of h.work a.kernel.state).kernel) a.current.0 h.service (effect_of h.work a.kernel.state).outcome → current.0 ≡ settled_task n.state [] a.current.0
-    → machine_of (record a { kernel = n; current = current; in_hand = None; t = a.t + 1 }) ≡ (done program_serves Direct (rule_in_hand (machine_of a).in_hand (machine_of a)) (machine_of a)).machine
-last-machine a h n current k e p ends settles =
-    let w = h.work in
-    let u = under_way_in a h k e in
-    let b = begun_in a h k e in
-    let f = effect_in w a.kernel.state in
-    let ends_in : n ≡ ended_kernel (with_state a.kernel f.kernel) a.current.0 h.service f.outcome = rw (effect-same w a.kernel.state b) at ends in
-    ended f.outcome f.kernel h a n current (plain-effect w.request w.caller w.compared w.compared a.kernel.state) u.caller ends_in settles ∙ sym (rw (e, none_left w a.kernel.state b p) refl)
+-- the outcome changes registers alone
+ended-state : (k : KernelRecord) (x : ℕ) (s : Service) (o : Outcome) → (ended_kernel k x s o).state ≡ k.state
+ended-state k x s (Answered a taken) = refl
+ended-state k x s Waits = refl
+ended-state k x s Gone = refl
+ended-state k x s (Quiet u) = refl
 
-pub last-kept : (a : Inside) (h : InHand) (n : KernelRecord) (current : TaskId) → IsKept a → a.in_hand ≡ Some h → a.t < most_task_steps → h.work.left ≡ 1
-    → n ≡ ended_kernel (with_state a.kernel (effect_of h.work a.kernel.state).kernel) a.current.0 h.service (effect_of h.work a.kernel.state).outcome → current.0 ≡ settled_task n.state [] a.current.0
-    → IsKept (record a { kernel = n; current = current; in_hand = None; t = a.t + 1 })
-last-kept a h n current k e open_yet p ends settles =
-    let moved : (done program_serves Direct (rule_in_hand (machine_of a).in_hand (machine_of a)) (machine_of a)).machine ≡ (advances program_serves (step_of h) (machine_of a)).machine = rw e refl in
-    record {
-      sound = subst IsSound (sym (last-machine a h n current k e p ends settles ∙ moved)) (sound-advances (step_of h) (machine_of a) k.sound (in_hand_is a h e) open_yet);
-      work = tt;
-    }
+module _ (a : Inside) (h : InHand) (n : KernelRecord) (current : TaskId) (k : IsKept a) (r : GoesOn (machine_of a)) (e : a.in_hand ≡ Some h) (p : h.work.left ≡ 1)
+    (ends : n ≡ ended_kernel (with_state a.kernel (effect_of h.work a.kernel.state).kernel) a.current.0 h.service (effect_of h.work a.kernel.state).outcome) (settles : current.0 ≡ settled_task n.state [] a.current.0) where
+  abbrev f : Effect
+  f = effect_in h.work a.kernel.state
 
--- what the current task does
+  b : IsBegunHere h.work a.kernel.state
+  b = begun_in a h k e
+
+  ends_in : n ≡ ended_kernel (with_state a.kernel f.kernel) a.current.0 h.service f.outcome
+  ends_in = rw (effect-same h.work a.kernel.state b) at ends
+
+  pub last-machine : machine_of (record a { kernel = n; current = current; in_hand = None; t = a.t + 1 }) ≡ (change (machine_of a)).machine
+  last-machine =
+      let w = h.work in
+      let u = stands_in a h k e in
+      ended f.outcome f.kernel h a n current (plain-effect w.request w.caller w.compared w.compared a.kernel.state) u.begun.caller ends_in settles
+      ∙ sym (rw (none_left w a.kernel.state b p) refl)
+      ∙ ap (λ (c : Change). c.machine) (sym (advanced a h r e))
+
+  pub last-kept : a.t < most_task_steps → IsKept (record a { kernel = n; current = current; in_hand = None; t = a.t + 1 })
+  last-kept open_yet =
+      let w = h.work in
+      let same : n.state ≡ f.kernel = ap (λ (j : KernelRecord). j.state) ends_in ∙ ended-state (with_state a.kernel f.kernel) a.current.0 h.service f.outcome in
+      kept-change a (record a { kernel = n; current = current; in_hand = None; t = a.t + 1 }) k open_yet last-machine (rw same (still-effect w.request w.caller w.compared w.compared a.kernel.state k.still)) tt k.vectors
+
+-- What the current task does.
 
 -- it has read its result
 finish-answered : (a : Inside) (n : KernelRecord) (o : Option Finished) → has_result o ≡ true → n ≡ finished_by o a.kernel a.current.0 → ((memory : List ℕ) → with_table o memory ≡ memory) → machine_of (record a { kernel = n; t = a.t + 1 }) ≡ (acts program_serves a.current.0 o (machine_of a)).machine
 finish-answered a n None e kernel no_table = cc
 finish-answered a n (Some f) e kernel no_table = rw (kernel, no_table a.ram) refl
 
-pub finish-machine : (a : Inside) (n : KernelRecord) → has_result (task_at a.kernel.state a.current.0).answered ≡ true → n ≡ finished_kernel a.kernel a.current.0
-    → ((memory : List ℕ) → with_table (task_at a.kernel.state a.current.0).answered memory ≡ memory) → machine_of (record a { kernel = n; t = a.t + 1 }) ≡ (done program_serves Direct TaskActs (machine_of a)).machine
-finish-machine a n e kernel no_table = finish-answered a n (task_at a.kernel.state a.current.0).answered e kernel no_table
+finished-state : (o : Option Finished) (k : KernelRecord) (x : ℕ) → has_result o ≡ true → (finished_by o k x).state ≡ finished x k.state
+finished-state None k x e = cc
+finished-state (Some f) k x e = refl
 
-pub task-kept : (a b : Inside) → IsKept a → (machine_of a).in_hand ≡ None → a.t < most_task_steps → machine_of b ≡ (done program_serves Direct TaskActs (machine_of a)).machine → IsBegunOn b.in_hand b.kernel.state → IsKept b
-task-kept a b k none open_yet e work = record { sound = subst IsSound (sym e) (sound-acts (machine_of a) k.sound none open_yet); work = work }
+pub finish-machine : (a : Inside) (n : KernelRecord) → rule Direct (machine_of a) ≡ TaskActs → has_result (task_at a.kernel.state a.current.0).answered ≡ true → n ≡ finished_kernel a.kernel a.current.0
+    → ((memory : List ℕ) → with_table (task_at a.kernel.state a.current.0).answered memory ≡ memory) → machine_of (record a { kernel = n; t = a.t + 1 }) ≡ (change (machine_of a)).machine
+finish-machine a n r e kernel no_table =
+    finish-answered a n (task_at a.kernel.state a.current.0).answered e kernel no_table ∙ ap (λ (c : Change). c.machine) (sym (by_rule (machine_of a) TaskActs r))
 
-pub instruct-kept : (a b : Inside) (x : ℕ) → IsKept a → a.current.0 ≡ x → (machine_of a).in_hand ≡ None → (task_at a.kernel.state x).answered ≡ None → a.t < most_task_steps → machine_of b ≡ (acts program_serves x None (machine_of a)).machine → IsBegunOn b.in_hand b.kernel.state → IsKept b
-instruct-kept a b x k current none answered open_yet e work =
-    let same : (done program_serves Direct TaskActs (machine_of a)).machine ≡ (acts program_serves x None (machine_of a)).machine = rw (current, answered) refl in
-    task-kept a b k none open_yet (e ∙ sym same) work
+pub finish-still : (a : Inside) (n : KernelRecord) → has_result (task_at a.kernel.state a.current.0).answered ≡ true → n ≡ finished_kernel a.kernel a.current.0 → IsStill a.kernel.state → IsStill n.state
+finish-still a n e kernel s =
+    let same : n.state ≡ finished a.current.0 a.kernel.state = ap (λ (j : KernelRecord). j.state) kernel ∙ finished-state (task_at a.kernel.state a.current.0).answered a.kernel a.current.0 e in
+    rw same (still-finished a.current.0 a.kernel.state s)
 
--- what happens takes one raw step
-pub raw-kept : (a b : Inside) → IsKept a → a.t < most_task_steps → machine_of b ≡ (done program_serves Direct (rule_in_hand (machine_of a).in_hand (machine_of a)) (machine_of a)).machine → IsBegunOn b.in_hand b.kernel.state → IsKept (record b { s = b.s + 1 })
-raw-kept a b k open_yet e work =
-    let m = machine_of a in
-    let r = rule_in_hand m.in_hand m in
-    let same : b.s ≡ a.s = ap (λ (n : Machine). n.s) e ∙ (counts-done program_serves Direct r m).s in
-    let by_rule : IsSound (record (done program_serves Direct r m).machine { s = m.s + 1 })
-    = subst (λ (q : Rule). IsSound (record (done program_serves Direct q m).machine { s = m.s + 1 })) (sym (rule-in_hand m.in_hand m refl)) (sound-raw m m.in_hand refl k.sound open_yet) in
-    rw same (record {
-      sound = subst (λ n. IsSound (record n { s = m.s + 1 })) (sym e) by_rule;
-      work = work;
-    })
+-- it has run an instruction
+pub instruct-change : (m : Machine) (x : ℕ) → rule Direct m ≡ TaskActs → m.current ≡ x → (task_at m.kernel x).answered ≡ None → change m ≡ acts program_serves x None m
+instruct-change m x r current answered = by_rule m TaskActs r ∙ rw (current, answered) refl
 
--- with nothing in hand no work was begun
-pub none_begun : (o : Option InHand) (k : Kernel) → hand_of o ≡ None → IsBegunOn o k
-none_begun None k e = tt
-none_begun (Some h) k e = cc
+-- an application's task has called
+module _ (a : Inside) (x : ℕ) (p : x < 60) where
+  abbrev pub e : Execution
+  e = exec a.code.items (registers_at (machine_of a) x) a.ram
 
--- with nothing in hand the current task acts
-pub at_rest : (m : Machine) → IsCalm m → m.in_hand ≡ None → done program_serves Direct (rule_in_hand m.in_hand m) m ≡ done program_serves Direct TaskActs m
-at_rest m c e =
-    let rests : rule_in_hand m.in_hand m ≡ TaskActs = rule-in_hand m.in_hand m c.later ∙ ap calm_rule e in
-    ap (λ (r : Rule). done program_serves Direct r m) rests
+  call-acts : e.did ≡ Call → acts program_serves x None (machine_of a) ≡ calls program_serves x e (machine_of a)
+  call-acts did = acts-application program_serves x (machine_of a) p ∙ ap (λ (d : Stepped). instructs program_serves d x e (machine_of a)) did
+
+  pub call-line : (what : What) (r : Request) → e.did ≡ Call → what ≡ called x r → r ≡ request_of program_serves e.registers e.memory → what ≡ (acts program_serves x None (machine_of a)).what
+  call-line what r did told same = told ∙ rw same refl ∙ ap (λ (c : Change). c.what) (sym (call-acts did))
+
+  pub call-machine : (kernel : KernelRecord) (ram : List ℕ) (regs : Registers) (r : Request) (prio : ℕ) → e.did ≡ Call → ram ≡ e.memory → regs ≡ e.registers → kernel ≡ record a.kernel { registers = slice_set a.kernel.registers x regs } → r ≡ request_of program_serves e.registers e.memory → prio ≡ prio_of a.kernel.state x
+      → record (machine_of a) { kernel = kernel.state; registers = kernel.registers; memory = ram; in_hand = Some (record { work = CallOf x r prio; done = 0 }) } ≡ (acts program_serves x None (machine_of a)).machine
+  call-machine kernel ram regs r prio did memory same state request level = rw (state, memory, same, request, level) refl ∙ ap (λ (c : Change). c.machine) (sym (call-acts did))

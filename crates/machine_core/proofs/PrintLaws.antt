@@ -1,6 +1,6 @@
 -- The lines of any event have room, where those of a look have.
 use Rattle.std.specs.Prelude.{if◌then◌else◌, ◌==◌}
-use Rattle.std.proofs.Common.{◌≡◌, ℕ, ◌+◌, Bool, true, false, List, ◌∷◌, Option, Some, None, refl}
+use Rattle.std.proofs.Common.{◌≡◌, ℕ, ◌+◌, Bool, List, [], ◌∷◌, Option, Some, None, refl, subst}
 use Rattle.kern_base.specs.declared.kinds.Method.{Method}
 use Rattle.kern_base.specs.declared.services.Service.{Service}
 use Rattle.kern_base.specs.declared.errors.OsErr.TheVariants.{CallUnknown}
@@ -28,13 +28,12 @@ use Rattle.machine_model.specs.Answers.{Change}
 use Rattle.machine_model.specs.Interrupts.{leaves, frame_goes_on, frame_calls, frame_posts, frame_refused, frame_did, interrupt_error, argument_words, ran}
 use Rattle.machine_model.specs.Steps.{call_ends, unit_ends, unit_line, ends, advances}
 use Rattle.machine_model.specs.Acts.{acts, instructs, idles, starts_unit, works_in_units}
-use Rattle.machine_model.specs.Looks.{looks}
-use Rattle.machine_model.specs.Rules.{Rule, Begins, Looks, Enters, FrameLimit, FrameRuns, MicroStep, TakeBegins, TaskActs, done, next}
+use Rattle.machine_model.specs.Looks.{looks, look_at}
+use Rattle.machine_model.specs.Rules.{Rule, Begins, Looks, Enters, FrameLimit, FrameRuns, MicroStep, TakeBegins, TaskActs, rule, done, next}
 use Rattle.machine_model.specs.Text.{IsPrintable}
-use Rattle.machine_core.specs.Valid.{IsCalm}
 use Rattle.machine_model.proofs.CountLaws.{choice}
-use Rattle.machine_core.proofs.CalmLaws.{calm_rule}
-use Rattle.machine_core.proofs.StepLaws.{next-calm}
+use Rattle.machine_laws.specs.RuleTable.{ALookIsHere, Applies}
+use Rattle.machine_laws.proofs.RuleFacts.{applies}
 
 abbrev Printable : Change → Type 0
 Printable c = IsPrintable c.what
@@ -118,11 +117,11 @@ module _ (served : Service → Bool) (method : Method) where
   printable-done (TakeBegins q) m look = tt
   printable-done TaskActs m look = printable-acts served m.current (task_at m.kernel m.current).answered m
 
-  calm_done : (b : Bool) (o : Option WholeStep) (m : Machine) → Printable (done served method (if b then calm_rule o else Begins) m)
-  calm_done false o m = tt
-  calm_done true None m = printable-done TaskActs m (λ l e. cc)
-  calm_done true (Some w) m = printable-done (MicroStep w) m (λ l e. cc)
-
-  -- a calm machine has no look to print
-  pub printable-next : (m : Machine) → IsCalm m → IsPrintable (next served method m).0.what
-  printable-next m c = next-calm served method (λ r. Printable (done served method r m)) m c (calm_done m.begun m.in_hand m)
+  -- where no look is to come
+  pub printable-next : (m : Machine) → m.looks ≡ [] → IsPrintable (next served method m).0.what
+  printable-next m none =
+      printable-done (rule method m) m
+      (λ l e.
+      let a : ALookIsHere l m = subst (λ (r : Rule). Applies method r m) e (applies method m) in
+      let no : look_at m.s [] ≡ Some l = rw none at a.look in
+      cc)

@@ -1,5 +1,5 @@
 -- What the services leave as it was: the signals of the internal tasks, and the lock.
-use Rattle.std.proofs.Common.{◌≡◌, ℕ, zero, suc, List, [], ◌∷◌, refl, Bool, true, false, Option, Some, None}
+use Rattle.std.proofs.Common.{◌≡◌, ℕ, zero, suc, List, [], ◌∷◌, refl, Bool, true, false, Option, Some, None, ◌∙◌}
 use Rattle.std.proofs.lemmas.Bool.{false≢true}
 use Rattle.std.specs.Prelude.{if◌then◌else◌, ◌==◌, ◌-◌, ◌+◌, ◌^◌}
 use Rattle.kern_base.specs.declared.services.Service.{Service}
@@ -15,15 +15,17 @@ use Rattle.kern_model.specs.Checks.{argument, call_error}
 use Rattle.kern_model.specs.Semaphores.{sem_post_to, sem_post, sem_pend}
 use Rattle.kern_model.specs.Services.{effect, program_serves, after_checks, row_of}
 use Rattle.kern_model.specs.Finish.{finished, finished_with}
+use Rattle.kern_model.specs.Stop.{stopped}
 use Rattle.machine_model.proofs.CountLaws.{choice}
+use Rattle.machine_core.specs.Valid.{IsStill}
 
 -- the signals, the work of the timer task and the lock are the same
-pub record SameBehind (k j : Kernel) : Type 0 where
-  pub tick_signals : j.tick_signals ≡ k.tick_signals
-  pub timer_signals : j.timer_signals ≡ k.timer_signals
-  pub processing : j.processing ≡ k.processing
-  pub in_callback : j.in_callback ≡ k.in_callback
-  pub lock : j.lock ≡ k.lock
+record SameBehind (k j : Kernel) : Type 0 where
+  tick_signals : j.tick_signals ≡ k.tick_signals
+  timer_signals : j.timer_signals ≡ k.timer_signals
+  processing : j.processing ≡ k.processing
+  in_callback : j.in_callback ≡ k.in_callback
+  lock : j.lock ≡ k.lock
 
 abbrev Keeps : Kernel → Effect → Type 0
 Keeps k e = SameBehind k e.kernel
@@ -81,7 +83,7 @@ keeps-served true r x c h k e = keeps-checked (call_error r x k) r x c h k e
 keeps-served false r x c h k e = same k
 
 -- no service that is served changes them
-pub same_behind-effect : (r : Request) (x c h : ℕ) (k : Kernel) → SameBehind k (effect program_serves r x c h k).kernel
+same_behind-effect : (r : Request) (x c h : ℕ) (k : Kernel) → SameBehind k (effect program_serves r x c h k).kernel
 same_behind-effect r x c h k = keeps-served (program_serves r.service) r x c h k refl
 
 -- nor does a task that reads its result
@@ -89,13 +91,25 @@ same_behind-finished_with : (o : Option Finished) (x : ℕ) (k : Kernel) → Sam
 same_behind-finished_with None x k = same k
 same_behind-finished_with (Some f) x k = record { tick_signals = refl; timer_signals = refl; processing = refl; in_callback = refl; lock = refl }
 
-pub same_behind-finished : (x : ℕ) (k : Kernel) → SameBehind k (finished x k)
+same_behind-finished : (x : ℕ) (k : Kernel) → SameBehind k (finished x k)
 same_behind-finished x k = same_behind-finished_with (task_at k x).answered x k
 
--- whose lists of ready tasks stay too
-ready-finished_with : (o : Option Finished) (x : ℕ) (k : Kernel) → (finished_with o x k).ready ≡ k.ready
-ready-finished_with None x k = refl
-ready-finished_with (Some f) x k = refl
+-- So a still kernel stays still, also after a trap.
 
-pub ready-finished : (x : ℕ) (k : Kernel) → (finished x k).ready ≡ k.ready
-ready-finished x k = ready-finished_with (task_at k x).answered x k
+still-same : (k j : Kernel) → SameBehind k j → IsStill k → IsStill j
+still-same k j h s =
+    record {
+      tick_signals = h.tick_signals ∙ s.tick_signals;
+      timer_signals = h.timer_signals ∙ s.timer_signals;
+      processing = h.processing ∙ s.processing;
+      lock = h.lock ∙ s.lock;
+    }
+
+pub still-effect : (r : Request) (x c h : ℕ) (k : Kernel) → IsStill k → IsStill (effect program_serves r x c h k).kernel
+still-effect r x c h k s = still-same k (effect program_serves r x c h k).kernel (same_behind-effect r x c h k) s
+
+pub still-finished : (x : ℕ) (k : Kernel) → IsStill k → IsStill (finished x k)
+still-finished x k s = still-same k (finished x k) (same_behind-finished x k) s
+
+pub still-stopped : (x : ℕ) (k : Kernel) → IsStill k → IsStill (stopped x k)
+still-stopped x k s = record { tick_signals = s.tick_signals; timer_signals = s.timer_signals; processing = s.processing; lock = refl }

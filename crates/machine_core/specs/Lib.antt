@@ -1,3 +1,4 @@
 pub mod Valid
 pub mod AnswerView
 pub mod MachineView
+pub mod FrameCalls

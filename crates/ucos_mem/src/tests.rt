@@ -1,4 +1,5 @@
 mod cases;
+mod interrupts;
 
 use outside::{MemSink, MemSource, Sink};
 use std::alloc::{AllocError, Global};

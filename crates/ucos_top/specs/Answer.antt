@@ -10,7 +10,7 @@ use Rattle.kern_base.specs.declared.kinds.Method.TheVariants.{Direct}
 use Rattle.kern_model.specs.Services.{program_serves}
 use Rattle.app_image.specs.Image.{ImageRecord}
 use Rattle.app_image.specs.Layout.{layout}
-use Rattle.inject_list.specs.Lists.{no_injections}
+use Rattle.inject_list.specs.Lists.{ListRecord}
 use Rattle.machine_model.specs.Run.{run_text}
 use Rattle.ucos_top.specs.Case.{Case, Accepts, Refuses, case_of}
 use Rattle.ucos_top.specs.Listing.{listing}
@@ -22,19 +22,19 @@ pub record Answer : Type 0 where
   pub text : List ℕ
 
 -- the printed run of a case to so many task steps
-unfoldable pub printed : ImageRecord → ℕ → List ℕ
-printed image count = run_text program_serves Direct image no_injections count
+unfoldable pub printed : ImageRecord → ListRecord → ℕ → List ℕ
+printed image l count = run_text program_serves Direct image l count
 
--- what a command writes of an image
-abbrev pub image_text : Command → ImageRecord → List ℕ
-image_text (Run count) image = printed image count
-image_text Listing image = listing image
-image_text Binary image = layout image
+-- what a command writes of an image and its injections
+abbrev pub accepted_text : Command → ImageRecord → ListRecord → List ℕ
+accepted_text (Run count) image l = printed image l count
+accepted_text Listing image l = listing image
+accepted_text Binary image l = layout image
 
 -- of a command on the case that was read
 abbrev pub case_answer : Command → Case → Answer
 case_answer command (Refuses line cause) = record { status = status.Refused; text = refusal_line line cause }
-case_answer command (Accepts image) = record { status = status.Done; text = image_text command image }
+case_answer command (Accepts image l) = record { status = status.Done; text = accepted_text command image l }
 
 -- of a command on an input
 abbrev pub command_answer : Option Command → List ℕ → Answer

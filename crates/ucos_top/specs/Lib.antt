@@ -2,7 +2,6 @@ pub mod Case
 pub mod Answers
 pub mod Words
 pub mod Commands
-pub mod WholeCase
 pub mod Whole
 pub mod Limit
 pub mod Listing

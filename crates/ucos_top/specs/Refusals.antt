@@ -2,17 +2,19 @@
 use Rattle.std.specs.Prelude.{ℕ, List, ◌++◌, codes, decimal}
 use Rattle.app_image.specs.CauseNumbers as image
 use Rattle.rv32_asm.specs.Refusal as asm
+use Rattle.inject_list.specs.Stage as inject
 use Rattle.ucos_top.specs.declared.causes.CaseCause.{CaseCause}
-use Rattle.ucos_top.specs.declared.causes.CaseCause.TheVariants.{BadByte, NumberTooLarge, OfText, OfImage, Injection}
+use Rattle.ucos_top.specs.declared.causes.CaseCause.TheVariants.{BadByte, NumberTooLarge, OfText, OfImage, OfInjection, Look}
 
--- the letter of the stage that refuses: L for the tokens, A for the assembler, I for the image, X for
+-- the letter of the stage that refuses: L for the tokens, A for the assembler, I for the image, J for the injections, X for
 -- what is not built
 abbrev pub letter : CaseCause → List ℕ
 letter BadByte = codes "L"
 letter NumberTooLarge = codes "L"
 letter (OfText cause) = codes "A"
 letter (OfImage cause) = codes "I"
-letter Injection = codes "X"
+letter (OfInjection cause) = codes "J"
+letter Look = codes "X"
 
 -- the number of the cause in its stage
 abbrev pub number : CaseCause → ℕ
@@ -20,7 +22,8 @@ number BadByte = 1
 number NumberTooLarge = 2
 number (OfText cause) = asm.cause_number cause
 number (OfImage cause) = image.cause_number cause
-number Injection = 2
+number (OfInjection cause) = inject.cause_number cause
+number Look = 3
 
 -- the line that refuses a case, as `refused 3 A5`
 unfoldable pub refusal_line : ℕ → CaseCause → List ℕ

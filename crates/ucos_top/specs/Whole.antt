@@ -17,7 +17,8 @@ use Rattle.ucos_top.specs.declared.TheConstants.{INPUT_LIMIT}
 use Rattle.ucos_top.specs.Commands.{AnyCommand, any_command}
 use Rattle.ucos_top.specs.Commands as command
 use Rattle.ucos_top.specs.Listing.{line, listing}
-use Rattle.ucos_top.specs.WholeCase.{WholeCase, Accepts, Refuses, whole_case, refused_line}
+use Rattle.ucos_top.specs.Case.{Case, Accepts, Refuses, whole_case}
+use Rattle.ucos_top.specs.Refusals.{refusal_line}
 
 -- the statuses that an answer may have
 pub data AnyStatus : Type 0 where
@@ -96,9 +97,9 @@ module _ (served : Service → Bool) where
   accepted_answer (command.Soak seed size) image l = let r = runs_of image l (steps_for size) in answers (runs_status r) (summary seed size image r)
 
   -- of a command on a case
-  abbrev pub case_answer : AnyCommand → WholeCase → WholeAnswer
+  abbrev pub case_answer : AnyCommand → Case → WholeAnswer
   case_answer c (Accepts image l) = accepted_answer c image l
-  case_answer c (Refuses line cause) = answers Refused (refused_line line cause)
+  case_answer c (Refuses line cause) = answers Refused (refusal_line line cause)
 
   -- of a command on an input that it reads
   abbrev pub input_answer : AnyCommand → List ℕ → WholeAnswer

@@ -1,27 +1,32 @@
 // The case that an input is.
 
-ghost use Rattle.std.specs.Prelude.{◌≡◌, ◌≤◌, take, drop, length, IfOk, IfErr};
+ghost use Rattle.std.specs.Prelude.{◌≡◌, ◌≤◌, ◌+◌, [], All, take, length, IfOk, IfErr};
 ghost use Rattle.text_lex.specs.Tokens.{lexed, Tokens};
 ghost use Rattle.app_image.specs.Layout.{magic};
 ghost use Rattle.app_image.specs.Raw.{IsMade};
 ghost use Rattle.app_image.specs.Refusal.{checked};
 ghost use Rattle.app_image.specs.Image.{IsValidImage};
-ghost use Rattle.ucos_top.specs.Answers.{IsFaultOf, Tells};
-ghost use Rattle.ucos_top.specs.Case.{case_of, checked_case, first_line, image_case, text_case};
+ghost use Rattle.inject_list.specs.Lists.{IsValidList};
+ghost use Rattle.inject_list.specs.Pieces.{is_end, lines, piece_of};
+ghost use Rattle.ucos_top.specs.Answers.{AreRestOf, IsFaultOf, IsInside, IsToRun, Tells};
+ghost use Rattle.ucos_top.specs.Case.{case_of, checked_case, first_look, image_case, is_look, looks_refused, text_case};
 
 use crate::INPUT_LIMIT;
 use crate::causes::{CaseCause, CaseError};
 use app_image::{Image, ImageError, RawImage, check, read_image};
+use inject_list::{InjectError, InjectList, read};
 use rv32_asm::{AsmError, assemble};
 use std::alloc::Global;
-use text_lex::{LexError, Token, TokenKind, tokens};
+use text_lex::{LexError, Token, TokenKind, slice, tokens};
 
-/// The case that an input is: the image of a text, or a binary image with a text behind it.
-#[tactic(auto, unfolding(crate::specs::Case::case_of))]
-pub fn read_case(alloc: Global, input: &[u8]) -> Result<Image, CaseError>
+/// The case that an input is: the image of a text and the injections behind its line `.inject`, or a
+/// binary image and the injections behind it. No case has a look.
+#[tactic(auto, unfolding(crate::specs::Case::input_case))]
+pub fn read_case(alloc: Global, input: &[u8]) -> Result<(Image, InjectList), CaseError>
     requires { length input.now ≤ INPUT_LIMIT }
     ensures case { Tells result (case_of input.now) }
-    ensures valid { IfOk result IsValidImage }
+    ensures valid { IfOk result (λ c. IsValidImage c.0) }
+    ensures to_run { IfOk result (λ c. IsToRun c.0 c.1) }
 {
     if input.starts_with(b"UC3I") {
         read_binary(alloc, input)
@@ -31,15 +36,16 @@ pub fn read_case(alloc: Global, input: &[u8]) -> Result<Image, CaseError>
 }
 
 // The case that a text is.
-#[tactic(auto, unfolding(crate::specs::Case::text_case))]
-fn read_text(alloc: Global, text: &[u8]) -> Result<Image, CaseError>
+#[tactic(auto, using(crate::proofs::UsedLaws::used_few), unfolding(crate::specs::Case::text_case))]
+fn read_text(alloc: Global, text: &[u8]) -> Result<(Image, InjectList), CaseError>
     requires { length text.now ≤ INPUT_LIMIT }
-    ensures case { Tells result (text_case text.now) }
-    ensures valid { IfOk result IsValidImage }
+    ensures case { Tells result (text_case looks_refused text.now) }
+    ensures valid { IfOk result (λ c. IsValidImage c.0) }
+    ensures to_run { IfOk result (λ c. IsToRun c.0 c.1) }
 {
     let tokens = read_tokens(alloc, text)?;
     match assemble(alloc, text, &tokens) {
-        Ok((raw, used)) => check_case(raw, &tokens, used),
+        Ok((raw, used)) => check_case(alloc, raw, text, &tokens[used..]),
         Err(AsmError::NoMemory) => Err(CaseError::NoMemory),
         Err(AsmError::At(line, cause)) => Err(CaseError::At(line, CaseCause::OfText(cause))),
     }
@@ -47,16 +53,18 @@ fn read_text(alloc: Global, text: &[u8]) -> Result<Image, CaseError>
 
 // The case that a binary image and the text behind it are.
 #[tactic(auto, unfolding(crate::specs::Case::image_case))]
-fn read_binary(alloc: Global, input: &[u8]) -> Result<Image, CaseError>
+fn read_binary(alloc: Global, input: &[u8]) -> Result<(Image, InjectList), CaseError>
     requires image { take 4 input.now ≡ magic }
     requires short { length input.now ≤ INPUT_LIMIT }
-    ensures case { Tells result (image_case input.now) }
-    ensures valid { IfOk result IsValidImage }
+    ensures case { Tells result (image_case looks_refused input.now) }
+    ensures valid { IfOk result (λ c. IsValidImage c.0) }
+    ensures to_run { IfOk result (λ c. IsToRun c.0 c.1) }
 {
     match read_image(alloc, input) {
         Ok((raw, size)) => {
-            let tokens = read_tokens(alloc, &input[size..])?;
-            check_case(raw, &tokens, 0)
+            let text = &input[size..];
+            let tokens = read_tokens(alloc, text)?;
+            check_case(alloc, raw, text, &tokens)
         }
         Err(ImageError::NoMemory) => Err(CaseError::NoMemory),
         Err(ImageError::At(line, cause)) => Err(CaseError::At(line, CaseCause::OfImage(cause))),
@@ -79,30 +87,77 @@ fn read_tokens(alloc: Global, text: &[u8]) -> Result<Vec<Token>, CaseError>
     }
 }
 
-// The case of a raw image, where the tokens from a place on are for injections.
-fn check_case(raw: RawImage, tokens: &[Token], from: usize) -> Result<Image, CaseError>
-    requires { IsMade raw }
-    ensures case { Tells result (checked_case (drop from tokens.now) (checked raw)) }
-    ensures valid { IfOk result IsValidImage }
+// The case of a raw image, where these tokens of the text are for injections.
+fn check_case(
+    alloc: Global,
+    raw: RawImage,
+    text: &[u8],
+    tokens: &[Token],
+) -> Result<(Image, InjectList), CaseError>
+    requires made { IsMade raw }
+    requires rest { AreRestOf text.now tokens.now }
+    ensures case { Tells result (checked_case looks_refused text.now tokens.now (checked raw)) }
+    ensures valid { IfOk result (λ c. IsValidImage c.0) }
+    ensures to_run { IfOk result (λ c. IsToRun c.0 c.1) }
 {
     match check(raw) {
-        Ok(image) => match first_line(tokens, from) {
-            None => Ok(image),
-            Some(line) => Err(CaseError::At(line, CaseCause::Injection)),
-        },
+        Ok(image) => inject(alloc, image, text, tokens),
         Err(ImageError::NoMemory) => Err(CaseError::NoMemory),
         Err(ImageError::At(line, cause)) => Err(CaseError::At(line, CaseCause::OfImage(cause))),
     }
 }
 
-// The line of the first token from a place on that does not only end a line.
-fn first_line(tokens: &[Token], from: usize) -> Option<u32>
-    ensures { result ≡ first_line (drop from tokens.now) }
+// The case of an image, where these tokens of the text are for its injections.
+fn inject(
+    alloc: Global,
+    image: Image,
+    text: &[u8],
+    tokens: &[Token],
+) -> Result<(Image, InjectList), CaseError>
+    requires valid { IsValidImage image }
+    requires rest { AreRestOf text.now tokens.now }
+    ensures case { Tells result (looks_refused text.now tokens.now image) }
+    ensures valid { IfOk result (λ c. IsValidImage c.0) }
+    ensures to_run { IfOk result (λ c. IsToRun c.0 c.1) }
 {
-    for i in from..tokens.len() {
-        if !matches!(tokens[i].kind, TokenKind::End) {
-            return Some(tokens[i].line);
+    match read(alloc, text, tokens, &image) {
+        Ok(list) => match first_look(text, tokens) {
+            None => Ok((image, list)),
+            Some(line) => Err(CaseError::At(line, CaseCause::Look)),
+        },
+        Err(InjectError::NoMemory) => Err(CaseError::NoMemory),
+        Err(InjectError::At(line, cause)) => {
+            Err(CaseError::At(line, CaseCause::OfInjection(cause)))
         }
     }
+}
+
+// The line of the first look.
+fn first_look(text: &[u8], tokens: &[Token]) -> Option<u32>
+    requires { All (IsInside text.now) tokens.now }
+    ensures { result ≡ first_look text.now (lines tokens.now) }
+{
+    let mut begun = false;
+    for token in tokens {
+        if !begun && is_look(text, token) {
+            return Some(token.line);
+        }
+        begun = !is_end(token.kind);
+    }
     None
+}
+
+// Whether a line that begins with this token is a look.
+fn is_look(text: &[u8], token: &Token) -> bool
+    requires { IsInside text.now token.now }
+    ensures { result ≡ is_look (piece_of text.now token.now) }
+{
+    matches!(token.kind, TokenKind::Name) && slice(text, token) == b"look".as_slice()
+}
+
+// Whether a token of this kind ends a line.
+fn is_end(kind: TokenKind) -> bool
+    ensures { result ≡ is_end kind }
+{
+    matches!(kind, TokenKind::End)
 }

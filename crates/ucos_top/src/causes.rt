@@ -3,10 +3,12 @@
 ghost use Rattle.std.specs.Prelude.{◌≡◌, ◌++◌, ◌≤◌, ◌+◌, [], ◌∷◌, length, decimal};
 ghost use Rattle.arrayvec.specs.ArrayVec.{array_vec_len};
 ghost use Rattle.rv32_asm.specs.Refusal.{cause_number};
+ghost use Rattle.inject_list.specs.Stage as inject;
 ghost use Rattle.ucos_top.specs.Refusals.{letter, number, refusal_line};
 
 use app_image::ImageCause;
 use arrayvec::ArrayVec;
+use inject_list::InjectCause;
 use itoa::Buffer;
 use rv32_asm::AsmCause;
 
@@ -22,8 +24,10 @@ pub enum CaseCause {
     OfText(AsmCause),
     /// I1 to I16: the image is not valid, or its bytes are no image.
     OfImage(ImageCause),
-    /// X2: a line that is not empty stands behind `.inject` or behind a binary image.
-    Injection,
+    /// J1 to J6: a line behind `.inject`, or behind a binary image, is no injection of the image.
+    OfInjection(InjectCause),
+    /// X3: a line is a look, which is not built.
+    Look,
 }
 
 /// Why an input is not read as a case.
@@ -79,7 +83,8 @@ fn letter(cause: CaseCause) -> u8
         CaseCause::BadByte | CaseCause::NumberTooLarge => b'L',
         CaseCause::OfText(_) => b'A',
         CaseCause::OfImage(_) => b'I',
-        CaseCause::Injection => b'X',
+        CaseCause::OfInjection(_) => b'J',
+        CaseCause::Look => b'X',
     }
 }
 
@@ -92,7 +97,8 @@ fn number(cause: CaseCause) -> u32
         CaseCause::NumberTooLarge => 2,
         CaseCause::OfText(cause) => text_number(cause),
         CaseCause::OfImage(cause) => u32::from(cause.number()),
-        CaseCause::Injection => 2,
+        CaseCause::OfInjection(cause) => injection_number(cause),
+        CaseCause::Look => 3,
     }
 }
 
@@ -115,5 +121,19 @@ fn text_number(cause: AsmCause) -> u32
         AsmCause::LongName => 12,
         AsmCause::UnknownSetting => 13,
         AsmCause::TooMany => 14,
+    }
+}
+
+// The number of a cause of the injections, 1 to 6.
+fn injection_number(cause: InjectCause) -> u32
+    ensures { result ≡ inject.cause_number cause }
+{
+    match cause {
+        InjectCause::WrongForm => 1,
+        InjectCause::NoVector => 2,
+        InjectCause::TooManyWords => 3,
+        InjectCause::TooMany => 4,
+        InjectCause::NoList => 5,
+        InjectCause::LateMoment => 6,
     }
 }

@@ -3,7 +3,7 @@
 ghost use Rattle.std.specs.Prelude.{◌≡◌, ◌≤◌};
 ghost use Rattle.outside.specs.Causes.{HasCause};
 ghost use Rattle.outside.specs.Written.{WritesPiece};
-ghost use Rattle.inject_list.specs.Lists.{no_injections};
+ghost use Rattle.inject_list.specs.Lists.{ListRecord};
 ghost use Rattle.machine_model.specs.Machine.{start};
 ghost use Rattle.machine_model.specs.Text.{IsPrintable, event_text};
 ghost use Rattle.ucos_top.specs.Answer.{printed};
@@ -29,16 +29,17 @@ fn write_event<K: Sink>(event: &Event, image: &Image, sink: &mut K) -> Result<()
     sink.write(lines.as_slice())
 }
 
-/// Writes the printed run of a machine at its start, to so many task steps. It takes no memory.
+/// Writes the printed run of a machine at its start with some injections, to so many task steps. It
+/// takes no memory.
 pub fn write_run<K: Sink>(
     mut machine: Machine,
     image: &Image,
     count: u32,
     sink: &mut K,
 ) -> Result<(), Failed>
-    requires start { machine ≡ start image.now no_injections }
+    requires within { machine.t ≤ count }
     requires count { count ≤ COUNT_LIMIT }
-    ensures bytes { WritesPiece (K.held sink.old) (K.held sink.new) result (printed image.now count) }
+    ensures bytes { (list : ListRecord) → machine ≡ start image.now list → WritesPiece (K.held sink.old) (K.held sink.new) result (printed image.now list count) }
     ensures cause { HasCause (K.faults sink.old) (K.faults sink.new) result }
 {
     'running: while machine.task_steps() < count {

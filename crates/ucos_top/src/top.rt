@@ -3,7 +3,8 @@ ghost use Rattle.std.specs.Io.KnownBytes.{Appends};
 ghost use Rattle.outside.specs.Causes.{Rose, DidNotRise};
 ghost use Rattle.outside.specs.Written.{AppendsPrefix};
 ghost use Rattle.ucos_top.specs.Words.{command_of, texts};
-ghost use Rattle.ucos_top.specs.Answer.{case_answer, defined, image_text, printed, Reads, TakesMemory};
+ghost use Rattle.ucos_top.specs.Answer.{accepted_text, case_answer, defined, printed, Reads, TakesMemory};
+ghost use Rattle.ucos_top.specs.Answers.{IsToRun};
 ghost use Rattle.ucos_top.specs.Case.{case_of};
 ghost use Rattle.ucos_top.specs.Refusals.{refusal_line};
 ghost use Rattle.ucos_top.specs.Limit.{IsWithinLimit};
@@ -17,6 +18,7 @@ use crate::text::write_run;
 use crate::words::{Command, command_of};
 use crate::{COUNT_LIMIT, INPUT_LIMIT, Status};
 use app_image::{Image, write_image};
+use inject_list::InjectList;
 use machine_core::Machine;
 use outside::{Failed, Sink, Source};
 use std::alloc::Global;
@@ -107,7 +109,7 @@ fn obey<K: Sink>(alloc: Global, command: Command, input: &[u8], sink: &mut K) ->
     ensures early { IsEarly (case_answer command (case_of input.now)).status → OrNoMemory result (case_answer command (case_of input.now)).status }
 {
     match read_case(alloc, input) {
-        Ok(image) => run(alloc, command, &image, sink),
+        Ok((image, list)) => run(alloc, command, &image, &list, sink),
         Err(CaseError::NoMemory) => Status::NoMemory,
         Err(CaseError::At(line, cause)) => refuse(line, cause, sink),
     }
@@ -124,17 +126,24 @@ fn refuse<K: Sink>(line: u32, cause: CaseCause, sink: &mut K) -> Status
 }
 
 // Does a command on an accepted case. All memory is taken before the first write.
-fn run<K: Sink>(alloc: Global, command: Command, image: &Image, sink: &mut K) -> Status
-    requires { IsWithinLimit command }
+fn run<K: Sink>(
+    alloc: Global,
+    command: Command,
+    image: &Image,
+    list: &InjectList,
+    sink: &mut K,
+) -> Status
+    requires within { IsWithinLimit command }
+    requires to_run { IsToRun image.now list.now }
     ensures own { (result ≡ Status.NoMemory) ⊎ ((result ≡ Status.WriteFault) ⊎ (result ≡ Status.Done)) }
     ensures sink_count { K.faults sink.old ≤ K.faults sink.new }
     ensures no_memory { result ≡ Status.NoMemory → sink.new ≡ sink.old }
     ensures write_fault { result ≡ Status.WriteFault → Rose (K.faults sink.old) (K.faults sink.new) }
-    ensures write_fault_text { result ≡ Status.WriteFault → AppendsPrefix (K.held sink.old) (K.held sink.new) (image_text command image.now) }
-    ensures whole_text { result ≡ Status.Done → Appends (K.held sink.old) (K.held sink.new) (image_text command image.now) }
+    ensures write_fault_text { result ≡ Status.WriteFault → AppendsPrefix (K.held sink.old) (K.held sink.new) (accepted_text command image.now list.now) }
+    ensures whole_text { result ≡ Status.Done → Appends (K.held sink.old) (K.held sink.new) (accepted_text command image.now list.now) }
 {
     match command {
-        Command::Run(count) => run_case(alloc, image, count, sink),
+        Command::Run(count) => run_case(alloc, image, list, count, sink),
         Command::Listing => ending(write_listing(image, sink)),
         Command::Binary => ending(write_image(image, sink)),
     }
@@ -151,16 +160,23 @@ fn ending(written: Result<(), Failed>) -> Status
 }
 
 // Runs a case to so many task steps.
-fn run_case<K: Sink>(alloc: Global, image: &Image, count: u32, sink: &mut K) -> Status
-    requires { count ≤ COUNT_LIMIT }
+fn run_case<K: Sink>(
+    alloc: Global,
+    image: &Image,
+    list: &InjectList,
+    count: u32,
+    sink: &mut K,
+) -> Status
+    requires count { count ≤ COUNT_LIMIT }
+    requires to_run { IsToRun image.now list.now }
     ensures own { (result ≡ Status.NoMemory) ⊎ ((result ≡ Status.WriteFault) ⊎ (result ≡ Status.Done)) }
     ensures sink_count { K.faults sink.old ≤ K.faults sink.new }
     ensures no_memory { result ≡ Status.NoMemory → sink.new ≡ sink.old }
     ensures write_fault { result ≡ Status.WriteFault → Rose (K.faults sink.old) (K.faults sink.new) }
-    ensures write_fault_text { result ≡ Status.WriteFault → AppendsPrefix (K.held sink.old) (K.held sink.new) (printed image.now count) }
-    ensures whole_text { result ≡ Status.Done → Appends (K.held sink.old) (K.held sink.new) (printed image.now count) }
+    ensures write_fault_text { result ≡ Status.WriteFault → AppendsPrefix (K.held sink.old) (K.held sink.new) (printed image.now list.now count) }
+    ensures whole_text { result ≡ Status.Done → Appends (K.held sink.old) (K.held sink.new) (printed image.now list.now count) }
 {
-    match Machine::load(alloc, image) {
+    match Machine::load(alloc, image, list) {
         Ok(machine) => ending(write_run(machine, image, count, sink)),
         Err(_) => Status::NoMemory,
     }

@@ -232,22 +232,6 @@ const DIVISIONS_TO_13: &str = "0 0 start a
 13 13 end
 ";
 
-// A text with an interrupt handler, up to the lines for injections, which begin at line 14.
-const HANDLER: &str = ".code
-go: li a0, 0
-li a1, 0
-os OSSemPend
-j go
-v: li a0, 0
-li a1, 0
-os OSSemPost
-ret
-.sem s, 0
-.task a, go, 10, 0, 0, 0x140000
-.vector 3, 2, v, 0x13F000
-.inject
-";
-
 // Texts, and the line that refuses each.
 const REFUSED: [(&str, &str); 22] = [
     ("", "refused 0 I1\n"),
@@ -280,26 +264,14 @@ const REFUSED: [(&str, &str); 22] = [
     ),
 ];
 
-// What stands behind `.inject`, and what comes of it: nothing but empty lines is accepted.
-const BEHIND_INJECT: [(&str, &str); 9] = [
-    ("", "0 0 end\n"),
-    ("\n \t\r\n# task 6, 3\n", "0 0 end\n"),
-    ("task 6", "refused 14 X2\n"),
-    ("task 6, 3", "refused 14 X2\n"),
-    ("task 6, 4", "refused 14 X2\n"),
-    ("task 6, 3, 1, 2, 3, 4, 5", "refused 14 X2\n"),
-    ("look 6, a", "refused 14 X2\n"),
-    ("task 1000001, 3", "refused 14 X2\n"),
-    ("\n# one\n\nx\ny\n", "refused 17 X2\n"),
-];
-
 // A word of the first text's image by its place, what it is changed to, a text behind the image, and
 // what a run to eight task steps prints.
-const IMAGES: [(usize, u32, &str, &str); 14] = [
+const IMAGES: [(usize, u32, &str, &str); 15] = [
     (1, 2, "", FIRST_TO_8),
     (1, 2, "\n \t# no injections\n", FIRST_TO_8),
-    (1, 2, "\n# one\n\ntask 1, 3\n", "refused 4 X2\n"),
-    (1, 2, "UC3I", "refused 1 X2\n"),
+    (1, 2, "\n# one\n\ntask 1, 3\n", "refused 4 J2\n"),
+    (1, 2, "\nlook 1, s\n", "refused 2 X3\n"),
+    (1, 2, "UC3I", "refused 1 J1\n"),
     (1, 3, "@", "refused 0 I16\n"),
     (1, 0x1_0002, "", "refused 0 I16\n"),
     (4, 0x1_003d, "", "refused 0 I16\n"),
@@ -384,18 +356,6 @@ fn a_declaration_too_many_is_refused_at_its_line(rt: HostRuntime) -> Result<(), 
         let text = declarations(alloc, kind, count)?;
         let held = written(rt.alloc(), "list", &text)?;
         assert_eq!(rt; held.as_slice(), want.as_bytes(), "{count} of {kind}");
-    }
-    Ok(())
-}
-
-#[test]
-fn injections_are_refused_at_their_first_line(rt: HostRuntime) -> Result<(), Fail> {
-    let alloc = rt.alloc();
-    for (behind, want) in BEHIND_INJECT {
-        let mut text = HANDLER.as_bytes().to_vec(alloc)?;
-        text.extend_from_slice(behind.as_bytes())?;
-        let (_, held) = answer(alloc, &Given::new("run direct 0", &text))?;
-        assert_eq!(rt; held.as_slice(), want.as_bytes(), "{behind}");
     }
     Ok(())
 }

@@ -1,8 +1,9 @@
-use Rattle.std.proofs.Common.{◌≤◌, List, ℕ}
+use Rattle.std.proofs.Common.{◌≡◌, ◌≤◌, List, ℕ}
 use Rattle.std.specs.Io.KnownBytes.{Appends}
 use Rattle.kern_base.specs.declared.kinds.Method.TheVariants.{Direct}
 use Rattle.kern_model.specs.Services.{program_serves}
-use Rattle.inject_list.specs.Lists.{no_injections}
+use Rattle.inject_list.specs.Lists.{ListRecord}
+use Rattle.machine_model.specs.Machine.{start}
 use Rattle.machine_model.specs.Bound.{events_left}
 use Rattle.machine_model.proofs.RunLaws.{HasPrinted}
 use Rattle.ucos_top.proofs.text.write_run.Given as goal
@@ -10,7 +11,8 @@ use Rattle.ucos_top.proofs.text.write_run.Given as goal
 -- what was printed so far is written, and the run goes on from this machine
 abbrev pub invariant-running : goal.invariant-running
 invariant-running g l = record {
-  written : (front : List ℕ) × Appends (g.K.Sink.held l.fn.sink) (g.K.Sink.held l.sink) front × HasPrinted program_serves Direct l.image no_injections l.count front l.machine;
+  written : (front : List ℕ) × Appends (g.K.Sink.held l.fn.sink) (g.K.Sink.held l.sink) front
+      × ((list : ListRecord) → l.fn.machine ≡ start l.image list → HasPrinted program_serves Direct l.image list l.count front l.machine);
   within : l.machine.t ≤ l.count;
   bound : l.count ≤ 1000000;
   later : g.K.Sink.faults l.fn.sink ≤ g.K.Sink.faults l.sink;

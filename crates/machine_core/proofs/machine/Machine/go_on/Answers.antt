@@ -1,41 +1,35 @@
-use Rattle.std.proofs.Common.{rules, ◌≡◌, ◌<◌, ◌+◌, ℕ, None, sym, ap, ◌∙◌, subst}
-use Rattle.machine_model.specs.Machine.{Machine}
-use Rattle.kern_base.specs.declared.kinds.Method.TheVariants.{Direct}
-use Rattle.kern_model.specs.Services.{program_serves}
-use Rattle.machine_model.specs.Answers.{Change}
-use Rattle.machine_model.specs.Rules.{done, rule_in_hand}
-use Rattle.machine_core.specs.Valid.{IsCalm, IsSound}
-use Rattle.machine_core.specs.MachineView.{machine_of}
-use Rattle.machine_model.proofs.CountLaws.{counts-done}
-use Rattle.machine_core.proofs.MachineFacts.{raw-kept, at_rest}
+use Rattle.std.proofs.Common.{◌≡◌, ◌<◌, ◌∙◌, sym, true}
+use Rattle.machine_core.proofs.ComingLaws.{Comes, it-comes, may-enter, free-told}
+use Rattle.machine_core.proofs.FrameFacts.{enters-kept, enters-next, enters-line, locked-is}
 use Rattle.machine_core.proofs.machine.Machine.go_on.Goals as goal
-use Rattle.machine_core.proofs.machine.Machine.go_on.Goals.{then-is_some, else-is_some}
 
--- the raw step is within the bound
+-- an interrupt enters
+
+pub enter-requires : goal.enter-requires
+enter-requires c =
+    let a = c.self.inside in
+    let begun : a.begun ≡ true = rw (← c.self.view_is) at c.requires.begun in
+    let comes : Comes a c.in-Some.number = it-comes a c.is_none-free.result c.in-Some.number begun (free-told a.in_hand c.is_none-free.result c.is_none-free.ensures) c.due.ensures.rising (sym c.due.ensures.number ∙ c.in-Some.is) in
+    may-enter a c.in-Some.number comes
+
 pub invariant_of-self : goal.invariant_of-self
 invariant_of-self c =
-    let open_yet : c.self.inside.t < 1000000 = rw (← c.self.view_is) at c.requires.open_yet in
-    let moved : c.if-is_some.self ≡ (done program_serves Direct (rule_in_hand c.args.self.now.in_hand c.args.self.now) c.args.self.now).machine
-    = elim c.if-is_some.branch [
-      | then-is_some w ↦ w.self-is ∙ w.advance-what.ensures.machine
-      | else-is_some w ↦
-          let none : c.args.self.now.in_hand ≡ None = search rules in
-          let calm : IsCalm c.args.self.now = (subst IsSound c.self.view_is c.self.invariant.sound).calm in
-          w.self-is ∙ w.act-what.ensures.machine ∙ ap (λ (ch : Change). ch.machine) (sym (at_rest c.args.self.now calm none))
-    ] in
-    let happened : machine_of c.self-2.inside ≡ (done program_serves Direct (rule_in_hand (machine_of c.self.inside).in_hand (machine_of c.self.inside)) (machine_of c.self.inside)).machine
-    = subst (λ (m : Machine). machine_of c.self-2.inside ≡ (done program_serves Direct (rule_in_hand m.in_hand m) m).machine) (sym c.self.view_is) (c.self-2.view_is ∙ moved) in
-    raw-kept c.self.inside c.self-2.inside c.self.invariant open_yet happened c.self-2.invariant.work
+    let a = c.self.inside in
+    let begun : a.begun ≡ true = rw (← c.self.view_is) at c.requires.begun in
+    let open_yet : a.t < 1000000 = rw (← c.self.view_is) at c.requires.open_yet in
+    let comes : Comes a c.in-Some.number = it-comes a c.is_none-free.result c.in-Some.number begun (free-told a.in_hand c.is_none-free.result c.is_none-free.ensures) c.due.ensures.rising (sym c.due.ensures.number ∙ c.in-Some.is) in
+    enters-kept a c.in-Some.number comes c.enter.new.frames c.enter.ensures.frames c.enter.ensures.waiting c.self.invariant open_yet
 
-pub returns-clause-machine : goal.returns-clause-machine
-returns-clause-machine c =
-    let moved : c.if-is_some.self ≡ (done program_serves Direct (rule_in_hand c.args.self.now.in_hand c.args.self.now) c.args.self.now).machine
-    = elim c.if-is_some.branch [
-      | then-is_some w ↦ w.self-is ∙ w.advance-what.ensures.machine
-      | else-is_some w ↦
-          let none : c.args.self.now.in_hand ≡ None = search rules in
-          let calm : IsCalm c.args.self.now = (subst IsSound c.self.view_is c.self.invariant.sound).calm in
-          w.self-is ∙ w.act-what.ensures.machine ∙ ap (λ (ch : Change). ch.machine) (sym (at_rest c.args.self.now calm none))
-    ] in
-    let n = (done program_serves Direct (rule_in_hand c.args.self.now.in_hand c.args.self.now) c.args.self.now).machine in
-    ap (λ (m : Machine). record m { s = m.s + 1 }) (c.self-2.view_is ∙ moved) ∙ ap (λ (s : ℕ). record n { s = s + 1 }) ((counts-done program_serves Direct (rule_in_hand c.args.self.now.in_hand c.args.self.now) c.args.self.now).s)
+pub returns-in-Some-clause-line : goal.returns-in-Some-clause-line
+returns-in-Some-clause-line c =
+    let a = c.self.inside in
+    let begun : a.begun ≡ true = rw (← c.self.view_is) at c.requires.begun in
+    let comes : Comes a c.in-Some.number = it-comes a c.is_none-free.result c.in-Some.number begun (free-told a.in_hand c.is_none-free.result c.is_none-free.ensures) c.due.ensures.rising (sym c.due.ensures.number ∙ c.in-Some.is) in
+    rw (← c.self.view_is) (enters-line a c.in-Some.number comes _ c.enter.result c.enter.ensures.line (rw c.lock-locked.ensures.value (locked-is a.kernel.state.lock)))
+
+pub returns-in-Some-clause-machine : goal.returns-in-Some-clause-machine
+returns-in-Some-clause-machine c =
+    let a = c.self.inside in
+    let begun : a.begun ≡ true = rw (← c.self.view_is) at c.requires.begun in
+    let comes : Comes a c.in-Some.number = it-comes a c.is_none-free.result c.in-Some.number begun (free-told a.in_hand c.is_none-free.result c.is_none-free.ensures) c.due.ensures.rising (sym c.due.ensures.number ∙ c.in-Some.is) in
+    rw (← c.self.view_is) (enters-next a c.in-Some.number comes c.enter.new.frames c.enter.ensures.frames c.enter.ensures.waiting)

@@ -1,22 +1,37 @@
-use Rattle.std.proofs.Common.{rules, ◌≡◌, subst}
+use Rattle.std.proofs.Common.{rules, ◌≡◌, ◌∙◌, [], false, ap, sym, subst, refl}
 use Rattle.kern_base.specs.declared.kinds.Method.TheVariants.{Direct}
 use Rattle.kern_model.specs.Services.{program_serves}
+use Rattle.machine_model.specs.Machine.{Machine}
+use Rattle.machine_model.specs.Answers.{Change}
 use Rattle.machine_model.specs.Rules.{next}
-use Rattle.machine_core.specs.Valid.{IsSound}
+use Rattle.machine_laws.specs.Valid.{IsValidMachine}
+use Rattle.machine_laws.proofs.FallLaws.{events_left-next}
+use Rattle.machine_core.specs.Valid.{change}
+use Rattle.machine_core.proofs.MachineFacts.{first-change}
 use Rattle.machine_core.proofs.PrintLaws.{printable-next}
-use Rattle.machine_core.proofs.StepLaws.{events_left-next}
 use Rattle.machine_core.proofs.machine.Machine.step.Goals as goal
+use Rattle.machine_core.proofs.machine.Machine.step.Goals.{then-self, else-self}
 
--- a calm machine has no look to print
+-- what happens next
+told : (c : goal.After-switch_of) → c.if-self.what.0 ≡ (change c.args.self.now).what
+told c =
+    elim c.if-self.branch [
+      | then-self w ↦ ap (λ p. p.0) w.what-is ∙ w.go_on.ensures.line
+      | else-self w ↦
+          let new : c.args.self.now.begun ≡ false = search rules in
+          ap (λ p. p.0) w.what-is ∙ search rules ∙ ap (λ (d : Change). d.what) (sym (first-change c.args.self.now new))
+    ]
+
+-- no look is to come, which could not be printed
 pub returns-clause-printable : goal.returns-clause-printable
 returns-clause-printable c =
-    let told : c.if-self.what ≡ (next program_serves Direct c.args.self.now).0.what = search rules in
-    let sound : IsSound c.args.self.now = subst IsSound c.self.view_is c.self.invariant.sound in
-    rw told (printable-next program_serves Direct c.args.self.now sound.calm)
+    let told : c.if-self.what.0 ≡ (next program_serves Direct c.args.self.now).0.what = told c in
+    let none : c.args.self.now.looks ≡ [] = subst (λ (m : Machine). m.looks ≡ []) c.self.view_is refl in
+    rw told (printable-next program_serves Direct c.args.self.now none)
 
 -- the machine is the next one, and every event leaves fewer
 pub returns-clause-fewer : goal.returns-clause-fewer
 returns-clause-fewer c = λ n p.
     let happened : c.if-self.self ≡ (next program_serves Direct c.args.self.now).1 = search rules in
-    let sound : IsSound c.args.self.now = subst IsSound c.self.view_is c.self.invariant.sound in
-    rw happened (events_left-next program_serves Direct n c.args.self.now sound.calm p sound.acts)
+    let valid : IsValidMachine program_serves Direct c.args.self.now = subst (IsValidMachine program_serves Direct) c.self.view_is c.self.invariant.valid in
+    rw happened (events_left-next program_serves Direct n c.args.self.now valid p)

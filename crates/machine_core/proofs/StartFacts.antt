@@ -1,0 +1,107 @@
+-- The machine at its start.
+use Rattle.std.specs.Prelude.{length, map, All, ◌==◌}
+use Rattle.std.proofs.Common.{◌≡◌, ◌<◌, ◌≤◌, ℕ, ◌+◌, ◌*◌, true, false, List, [], ◌∷◌, None, inl, inr, refl, sym, ap, subst, arith}
+use Rattle.std.proofs.lemmas.List.{length-map}
+use Rattle.std.proofs.lemmas.List.Elements.{All-nil, All-cons, All-head, All-tail}
+use Rattle.std.proofs.lemmas.Bool.{false≢true}
+use Rattle.kern_base.specs.declared.kinds.Method.TheVariants.{Direct}
+use Rattle.kern_model.specs.State.{pick}
+use Rattle.kern_model.specs.Services.{program_serves}
+use Rattle.kern_model.proofs.LeadLaws.{choice}
+use Rattle.kern_model.proofs.Tests.{equal, or_either}
+use Rattle.app_image.specs.Image.{ImageRecord, IsValidImage, IsValidVector}
+use Rattle.app_image.specs.declared.records.VectorDef.{VectorDef}
+use Rattle.app_image.specs.Layout.{HasWords}
+use Rattle.inject_list.specs.Lists.{ListRecord, IsValidList, IsInjection, is_declared, most_entries}
+use Rattle.inject_list.specs.declared.lists.Injection.{Injection}
+use Rattle.isr_nesting.specs.Frames.{Interrupt, FrameRecord, interrupt_of, interrupts_of}
+use Rattle.isr_nesting.specs.Nest.{Nest, interrupts, unnumbered, numbered}
+use Rattle.machine_model.specs.Machine.{Machine, start}
+use Rattle.machine_model.specs.Bound.{events_left, interrupt_events}
+use Rattle.kernel_calls.specs.Start.{start_of}
+use Rattle.rv32_exec.specs.Memory.{filled}
+use Rattle.machine_laws.specs.Valid.{IsValidMachine}
+use Rattle.machine_laws.proofs.NextValid.{valid-start_machine}
+use Rattle.machine_core.specs.declared.machine.Machine.TheInside.{Inside}
+use Rattle.machine_core.specs.MachineView.{machine_of, hand_of, IsKept, HasVectors}
+use Rattle.machine_core.specs.Valid.{IsStill, most_task_steps, most_events}
+use Rattle.machine_core.proofs.MachineFacts.{none_begun}
+
+-- The interrupts.
+
+-- without the numbers that they have
+unnumbered-numbered : (n : ℕ) (is : List Interrupt) → unnumbered (numbered n is) ≡ is
+unnumbered-numbered n [] = refl
+unnumbered-numbered n (i ∷ is) = ap (λ js. i ∷ js) (unnumbered-numbered (n + 1) is)
+
+pub interrupts-new : (is : List Interrupt) (n : Nest) → n ≡ record { frames = []; waiting = numbered 0 is } → interrupts n ≡ is
+interrupts-new is n e = rw e (unnumbered-numbered 0 is)
+
+-- a declared vector has a number that an image may declare
+declared-low : (words : ℕ) (vs : List VectorDef) (number : ℕ) → All (IsValidVector words) vs → is_declared vs number ≡ true → number < 32
+declared-low words [] number h e = absurd (false≢true e)
+declared-low words (v ∷ vs) number h e = elim (or_either (v.number == number) (is_declared vs number) e) [
+  | inl here ↦ let n = (All-head (IsValidVector words) v vs h).number in let same = equal v.number number here in omega (arith, n, same)
+  | inr rest ↦ declared-low words vs number (All-tail (IsValidVector words) v vs h) rest
+]
+
+vector-of : (vs : List VectorDef) (i : Injection) → (interrupt_of vs i).vector ≡ i.vector
+vector-of [] i = refl
+vector-of (v ∷ vs) i = choice (λ (x : Interrupt). x.vector ≡ i.vector) (v.number == i.vector) (record { moment = i.moment; vector = i.vector; level = v.level; entry = v.entry; sp = v.sp; words = i.words }) (interrupt_of vs i) refl (vector-of vs i)
+
+vectors-low : (image : ImageRecord) (is : List Injection) → All (IsValidVector (length image.code)) image.vectors → All (IsInjection image) is → All (λ x. x.vector < 32) (map (interrupt_of image.vectors) is)
+vectors-low image [] h each = All-nil (λ (x : Interrupt). x.vector < 32)
+vectors-low image (i ∷ is) h each =
+    let low = declared-low (length image.code) image.vectors i.vector h (All-head (IsInjection image) i is each).vector in
+    let same = vector-of image.vectors i in
+    All-cons (λ (x : Interrupt). x.vector < 32) (interrupt_of image.vectors i) (map (interrupt_of image.vectors) is) (omega (arith, low, same)) (vectors-low image is h (All-tail (IsInjection image) i is each))
+
+vectors-start : (image : ImageRecord) (list : ListRecord) (n : Nest) → IsValidImage image → IsValidList image list → n.frames ≡ [] → interrupts n ≡ interrupts_of image list → HasVectors n
+vectors-start image list n h l frames is = record {
+  frames = rw frames (All-nil (λ (f : FrameRecord). f.vector < 32));
+  waiting = rw is (vectors-low image list.injections h.vectors l.injections);
+}
+
+-- The machine.
+
+-- so many interrupts, each with so many events
+entries-le : (i limit : ℕ) → i ≤ most_entries → limit ≤ 4096 → i * interrupt_events limit ≤ most_entries * interrupt_events 4096
+entries-le i limit a b = grind arith
+
+few-start : (image : ImageRecord) (list : ListRecord) → IsValidImage image → IsValidList image list → events_left most_task_steps (start image list) ≤ most_events
+few-start image list h l =
+    let m : Machine = start image list in
+    let many : length m.interrupts ≡ length list.injections = length-map list.injections (interrupt_of image.vectors) in
+    let few = l.few in
+    let entries = entries-le (length m.interrupts) image.config.isr_limit (omega (arith, many, few)) h.config.isr_limit_high in
+    omega (arith, entries, few)
+
+pub valid-loaded : (image : ImageRecord) (list : ListRecord) (m : Machine) → IsValidImage image → HasWords image → IsValidList image list → m ≡ start image list → IsValidMachine program_serves Direct m
+valid-loaded image list m h words l e = subst (IsValidMachine program_serves Direct) (sym e) (valid-start_machine program_serves Direct image list h words l)
+
+pub kept-loaded : (image : ImageRecord) (list : ListRecord) (a : Inside) → IsValidImage image → HasWords image → IsValidList image list → machine_of a ≡ start image list → IsKept a
+kept-loaded image list a h words l e =
+    let s : a.s ≡ 0 = ap (λ (m : Machine). m.s) e in
+    let t : a.t ≡ 0 = ap (λ (m : Machine). m.t) e in
+    let none : hand_of a.in_hand ≡ None = ap (λ (m : Machine). m.in_hand) e in
+    let still : IsStill (start image list).kernel = record { tick_signals = refl; timer_signals = refl; processing = refl; lock = refl } in
+    let few : events_left most_task_steps (machine_of a) ≤ most_events = subst (λ (m : Machine). events_left most_task_steps m ≤ most_events) (sym e) (few-start image list h l) in
+    record {
+      valid = valid-loaded image list (machine_of a) h words l e;
+      still = subst (λ (m : Machine). IsStill m.kernel) (sym e) still;
+      work = none_begun a.in_hand a.kernel.state none;
+      within = omega (arith, t);
+      vectors = vectors-start image list a.frames h l (ap (λ (m : Machine). m.frames) e) (ap (λ (m : Machine). m.interrupts) e);
+      few = omega (arith, few, s);
+    }
+
+-- it is loaded part by part
+module _ (image : ImageRecord) (list : ListRecord) (a : Inside) (kernel : a.kernel ≡ start_of image) (ram : a.ram ≡ filled image.ram) (current : a.current.0 ≡ pick a.kernel.state) (frames : a.frames ≡ record { frames = []; waiting = numbered 0 (interrupts_of image list) })
+    (none : hand_of a.in_hand ≡ None) (code : a.code.items ≡ image.code) (config : a.config ≡ image.config) (no_look : list.looks ≡ []) (begun : a.begun ≡ false) (s : a.s ≡ 0) (t : a.t ≡ 0) where
+  pub loaded : machine_of a ≡ start image list
+  loaded =
+      let is : interrupts a.frames ≡ interrupts_of image list = interrupts-new (interrupts_of image list) a.frames frames in
+      rw (is, current, kernel, ram, frames, none, code, config, no_look, begun, s, t) refl
+
+  pub loaded-kept : IsValidImage image → HasWords image → IsValidList image list → IsKept a
+  loaded-kept h words l = kept-loaded image list a h words l loaded

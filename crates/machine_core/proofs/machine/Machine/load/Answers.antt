@@ -1,0 +1,14 @@
+use Rattle.std.proofs.Common.{rules, refl, None, false}
+use Rattle.machine_core.proofs.StartFacts.{loaded, loaded-kept}
+use Rattle.machine_core.proofs.machine.Machine.load.Goals as goal
+
+pub invariant_of-result : goal.invariant_of-result
+invariant_of-result c =
+    loaded-kept c.args.image.now c.args.list.now _ c.in_ok-kernel.ensures.start (search rules) c.pick-current.ensures.value c.in_ok-frames.ensures refl (search rules) c.config.ensures.value c.requires.no_look refl refl refl c.config.ensures.valid c.ram.ensures.words c.requires.list
+
+pub returns-clause-valid : goal.returns-clause-valid
+returns-clause-valid c = (invariant_of-result c).valid
+
+pub returns-clause-start : goal.returns-clause-start
+returns-clause-start c =
+    loaded c.args.image.now c.args.list.now (record { kernel = c.in_ok-kernel.kernel; ram = c.in-Ok.ram; code = c.extend_from_slice.new.self; config = c.config.result; current = c.pick-current.result; frames = c.in_ok-frames.frames; in_hand = None; begun = false; s = 0; t = 0 }) c.in_ok-kernel.ensures.start (search rules) c.pick-current.ensures.value c.in_ok-frames.ensures refl (search rules) c.config.ensures.value c.requires.no_look refl refl refl
