@@ -6,10 +6,8 @@
 # First build the program: (cd crates/ucos3 && rt run)
 set -eu
 cd "$(dirname "$0")/.."
-program=crates/ucos3/out/ucos3
-test -x "$program" || { echo "no $program: run rt run in crates/ucos3 first" >&2; exit 1; }
-folder=$(mktemp -d)
-trap 'rm -rf "$folder"' EXIT
+. bench/built.sh
+built ucos3
 
 # A case with so many interrupts, the first at a moment in raw steps and each of the others so many steps later.
 text() {

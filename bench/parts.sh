@@ -5,11 +5,9 @@
 # First build the program: (cd crates/bench_parts && rt run)
 set -eu
 cd "$(dirname "$0")/.."
-program=crates/bench_parts/out/bench_parts
-test -x "$program" || { echo "no $program: run rt run in crates/bench_parts first" >&2; exit 1; }
+. bench/built.sh
+built bench_parts
 count=${1:-4194304}
-folder=$(mktemp -d)
-trap 'rm -rf "$folder"' EXIT
 
 # The least number of nanoseconds that a command took.
 best() {
