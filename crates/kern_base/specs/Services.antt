@@ -1,7 +1,11 @@
--- The table of services: number, name, number of arguments.
-use Rattle.std.specs.Prelude.{ℕ, zero, suc, List, [], ◌∷◌, codes, slice_index_or}
+-- The table of services.
+use Rattle.std.specs.Prelude.{ℕ, zero, suc, Bool, true, false, ◌||◌, List, [], ◌∷◌, codes, ◌==◌, nat_lt, slice_index, slice_index_or}
 use Rattle.kern_base.specs.declared.services.Service.{Service}
 use Rattle.kern_base.specs.declared.services.Service.TheVariants.{SemPost, QPost, FlagPost, TaskSemPost, TaskQPost, TimeTick, SemPend, QPend, FlagPend, MutexPend, TaskSemPend, TaskQPend, PendMulti, MutexPost, SemPendAbort, QPendAbort, FlagPendAbort, MutexPendAbort, TaskSemPendAbort, TaskQPendAbort, SemDel, QDel, FlagDel, MutexDel, TimeDly, TimeDlyResume, TimeGet, TaskSuspend, TaskResume, TaskDel, RoundRobinYield, SchedLock, SchedUnlock, TmrStart, TmrStop, TmrRemainGet, TmrStateGet, TmrDel, TaskChangePrio, Unknown}
+use Rattle.kern_base.specs.declared.kinds.Kind.{Kind}
+use Rattle.kern_base.specs.declared.kinds.Kind.TheVariants.{Sem, Queue, Flags, Mutex, OneShot, Periodic}
+use Rattle.kern_base.specs.declared.errors.OsErr.{OsErr}
+use Rattle.kern_base.specs.declared.errors.OsErr.TheVariants.{CallIsr, CallUnknown, DeleteIsr, PendAbortIsr, PendIsr, PostIsr, SchedLockIsr, SchedUnlockIsr, TaskChangePrioIsr, TaskDeleteIsr, TaskResumeIsr, TaskSuspendIsr, TimeDelayIsr, TimeDelayResumeIsr, TimerIsr, YieldIsr}
 
 -- the services in the order of their numbers, from 1
 abbrev pub services : List Service
@@ -12,131 +16,103 @@ abbrev pub service_of : ℕ → Service
 service_of zero = Unknown 0
 service_of (suc n) = slice_index_or services n (Unknown (suc n))
 
--- the number of a service
+-- The options that a service names among its arguments: it has none, or the argument at a place is 0, is below a number, or is 0 or 2.
+abbrev pub any_option : List ℕ → Bool
+any_option args = true
+
+abbrev pub zero_at : ℕ → List ℕ → Bool
+zero_at i args = slice_index args i == 0
+
+abbrev pub below_at : ℕ → ℕ → List ℕ → Bool
+below_at i n args = nat_lt (slice_index args i) n
+
+abbrev pub zero_or_two_at : ℕ → List ℕ → Bool
+zero_or_two_at i args = (slice_index args i == 0) || (slice_index args i == 2)
+
+-- An entry of the table: the service's number and its name in the book; how many arguments it has, in a0 up; the kinds that the
+-- object in the first may have, or whether the first is the number of a task; which arguments have an option that it names; its
+-- answer in interrupt code, whether interrupt code may use it after all, and whether it renews priorities.
+pub record Entry : Type 0 where
+  pub number : ℕ
+  pub name : List ℕ
+  pub arguments : ℕ
+  pub kinds : List Kind
+  pub task : Bool
+  pub options : List ℕ → Bool
+  pub interrupt_error : OsErr
+  pub post : Bool
+  pub renews : Bool
+
+-- the table; a number that no service has has no name
+abbrev pub entry_of : Service → Entry
+entry_of SemPost = record { number = 1; name = codes "OSSemPost"; arguments = 2; kinds = Sem ∷ []; task = false; options = zero_or_two_at 1; interrupt_error = CallUnknown; post = true; renews = false }
+entry_of QPost = record { number = 2; name = codes "OSQPost"; arguments = 4; kinds = Queue ∷ []; task = false; options = below_at 3 4; interrupt_error = CallUnknown; post = true; renews = false }
+entry_of FlagPost = record { number = 3; name = codes "OSFlagPost"; arguments = 3; kinds = Flags ∷ []; task = false; options = below_at 2 2; interrupt_error = CallUnknown; post = true; renews = false }
+entry_of TaskSemPost = record { number = 4; name = codes "OSTaskSemPost"; arguments = 2; kinds = []; task = true; options = zero_at 1; interrupt_error = CallUnknown; post = true; renews = false }
+entry_of TaskQPost = record { number = 5; name = codes "OSTaskQPost"; arguments = 4; kinds = []; task = true; options = below_at 3 2; interrupt_error = CallUnknown; post = true; renews = false }
+entry_of TimeTick = record { number = 6; name = codes "OSTimeTick"; arguments = 0; kinds = []; task = false; options = any_option; interrupt_error = CallUnknown; post = true; renews = false }
+entry_of SemPend = record { number = 7; name = codes "OSSemPend"; arguments = 3; kinds = Sem ∷ []; task = false; options = below_at 2 2; interrupt_error = PendIsr; post = false; renews = false }
+entry_of QPend = record { number = 8; name = codes "OSQPend"; arguments = 3; kinds = Queue ∷ []; task = false; options = below_at 2 2; interrupt_error = PendIsr; post = false; renews = false }
+entry_of FlagPend = record { number = 9; name = codes "OSFlagPend"; arguments = 4; kinds = Flags ∷ []; task = false; options = below_at 3 16; interrupt_error = PendIsr; post = false; renews = false }
+entry_of MutexPend = record { number = 10; name = codes "OSMutexPend"; arguments = 3; kinds = Mutex ∷ []; task = false; options = below_at 2 2; interrupt_error = PendIsr; post = false; renews = true }
+entry_of TaskSemPend = record { number = 11; name = codes "OSTaskSemPend"; arguments = 2; kinds = []; task = false; options = below_at 1 2; interrupt_error = PendIsr; post = false; renews = false }
+entry_of TaskQPend = record { number = 12; name = codes "OSTaskQPend"; arguments = 2; kinds = []; task = false; options = below_at 1 2; interrupt_error = PendIsr; post = false; renews = false }
+entry_of PendMulti = record { number = 13; name = codes "OSPendMulti"; arguments = 4; kinds = []; task = false; options = below_at 3 2; interrupt_error = PendIsr; post = false; renews = false }
+entry_of MutexPost = record { number = 14; name = codes "OSMutexPost"; arguments = 2; kinds = Mutex ∷ []; task = false; options = zero_at 1; interrupt_error = PostIsr; post = false; renews = true }
+entry_of SemPendAbort = record { number = 15; name = codes "OSSemPendAbort"; arguments = 2; kinds = Sem ∷ []; task = false; options = below_at 1 2; interrupt_error = PendAbortIsr; post = false; renews = false }
+entry_of QPendAbort = record { number = 16; name = codes "OSQPendAbort"; arguments = 2; kinds = Queue ∷ []; task = false; options = below_at 1 2; interrupt_error = PendAbortIsr; post = false; renews = false }
+entry_of FlagPendAbort = record { number = 17; name = codes "OSFlagPendAbort"; arguments = 2; kinds = Flags ∷ []; task = false; options = below_at 1 2; interrupt_error = PendAbortIsr; post = false; renews = false }
+entry_of MutexPendAbort = record { number = 18; name = codes "OSMutexPendAbort"; arguments = 2; kinds = Mutex ∷ []; task = false; options = below_at 1 2; interrupt_error = PendAbortIsr; post = false; renews = true }
+entry_of TaskSemPendAbort = record { number = 19; name = codes "OSTaskSemPendAbort"; arguments = 2; kinds = []; task = true; options = zero_at 1; interrupt_error = PendAbortIsr; post = false; renews = false }
+entry_of TaskQPendAbort = record { number = 20; name = codes "OSTaskQPendAbort"; arguments = 2; kinds = []; task = true; options = zero_at 1; interrupt_error = PendAbortIsr; post = false; renews = false }
+entry_of SemDel = record { number = 21; name = codes "OSSemDel"; arguments = 2; kinds = Sem ∷ []; task = false; options = below_at 1 2; interrupt_error = DeleteIsr; post = false; renews = false }
+entry_of QDel = record { number = 22; name = codes "OSQDel"; arguments = 2; kinds = Queue ∷ []; task = false; options = below_at 1 2; interrupt_error = DeleteIsr; post = false; renews = false }
+entry_of FlagDel = record { number = 23; name = codes "OSFlagDel"; arguments = 2; kinds = Flags ∷ []; task = false; options = below_at 1 2; interrupt_error = DeleteIsr; post = false; renews = false }
+entry_of MutexDel = record { number = 24; name = codes "OSMutexDel"; arguments = 2; kinds = Mutex ∷ []; task = false; options = below_at 1 2; interrupt_error = DeleteIsr; post = false; renews = true }
+entry_of TimeDly = record { number = 25; name = codes "OSTimeDly"; arguments = 2; kinds = []; task = false; options = below_at 1 2; interrupt_error = TimeDelayIsr; post = false; renews = false }
+entry_of TimeDlyResume = record { number = 26; name = codes "OSTimeDlyResume"; arguments = 1; kinds = []; task = true; options = any_option; interrupt_error = TimeDelayResumeIsr; post = false; renews = false }
+entry_of TimeGet = record { number = 27; name = codes "OSTimeGet"; arguments = 0; kinds = []; task = false; options = any_option; interrupt_error = CallIsr; post = false; renews = false }
+entry_of TaskSuspend = record { number = 28; name = codes "OSTaskSuspend"; arguments = 1; kinds = []; task = true; options = any_option; interrupt_error = TaskSuspendIsr; post = false; renews = false }
+entry_of TaskResume = record { number = 29; name = codes "OSTaskResume"; arguments = 1; kinds = []; task = true; options = any_option; interrupt_error = TaskResumeIsr; post = false; renews = false }
+entry_of TaskDel = record { number = 30; name = codes "OSTaskDel"; arguments = 1; kinds = []; task = true; options = any_option; interrupt_error = TaskDeleteIsr; post = false; renews = true }
+entry_of RoundRobinYield = record { number = 31; name = codes "OSSchedRoundRobinYield"; arguments = 0; kinds = []; task = false; options = any_option; interrupt_error = YieldIsr; post = false; renews = false }
+entry_of SchedLock = record { number = 32; name = codes "OSSchedLock"; arguments = 0; kinds = []; task = false; options = any_option; interrupt_error = SchedLockIsr; post = false; renews = false }
+entry_of SchedUnlock = record { number = 33; name = codes "OSSchedUnlock"; arguments = 0; kinds = []; task = false; options = any_option; interrupt_error = SchedUnlockIsr; post = false; renews = false }
+entry_of TmrStart = record { number = 34; name = codes "OSTmrStart"; arguments = 1; kinds = OneShot ∷ Periodic ∷ []; task = false; options = any_option; interrupt_error = TimerIsr; post = false; renews = false }
+entry_of TmrStop = record { number = 35; name = codes "OSTmrStop"; arguments = 2; kinds = OneShot ∷ Periodic ∷ []; task = false; options = zero_at 1; interrupt_error = TimerIsr; post = false; renews = false }
+entry_of TmrRemainGet = record { number = 36; name = codes "OSTmrRemainGet"; arguments = 1; kinds = OneShot ∷ Periodic ∷ []; task = false; options = any_option; interrupt_error = TimerIsr; post = false; renews = false }
+entry_of TmrStateGet = record { number = 37; name = codes "OSTmrStateGet"; arguments = 1; kinds = OneShot ∷ Periodic ∷ []; task = false; options = any_option; interrupt_error = TimerIsr; post = false; renews = false }
+entry_of TmrDel = record { number = 38; name = codes "OSTmrDel"; arguments = 1; kinds = OneShot ∷ Periodic ∷ []; task = false; options = any_option; interrupt_error = TimerIsr; post = false; renews = false }
+entry_of TaskChangePrio = record { number = 39; name = codes "OSTaskChangePrio"; arguments = 2; kinds = []; task = true; options = any_option; interrupt_error = TaskChangePrioIsr; post = false; renews = true }
+entry_of (Unknown number) = record { number = number; name = []; arguments = 0; kinds = []; task = false; options = any_option; interrupt_error = CallUnknown; post = false; renews = false }
+
+-- its columns
+
 abbrev pub service_number : Service → ℕ
-service_number SemPost = 1
-service_number QPost = 2
-service_number FlagPost = 3
-service_number TaskSemPost = 4
-service_number TaskQPost = 5
-service_number TimeTick = 6
-service_number SemPend = 7
-service_number QPend = 8
-service_number FlagPend = 9
-service_number MutexPend = 10
-service_number TaskSemPend = 11
-service_number TaskQPend = 12
-service_number PendMulti = 13
-service_number MutexPost = 14
-service_number SemPendAbort = 15
-service_number QPendAbort = 16
-service_number FlagPendAbort = 17
-service_number MutexPendAbort = 18
-service_number TaskSemPendAbort = 19
-service_number TaskQPendAbort = 20
-service_number SemDel = 21
-service_number QDel = 22
-service_number FlagDel = 23
-service_number MutexDel = 24
-service_number TimeDly = 25
-service_number TimeDlyResume = 26
-service_number TimeGet = 27
-service_number TaskSuspend = 28
-service_number TaskResume = 29
-service_number TaskDel = 30
-service_number RoundRobinYield = 31
-service_number SchedLock = 32
-service_number SchedUnlock = 33
-service_number TmrStart = 34
-service_number TmrStop = 35
-service_number TmrRemainGet = 36
-service_number TmrStateGet = 37
-service_number TmrDel = 38
-service_number TaskChangePrio = 39
-service_number (Unknown number) = number
+service_number s = (entry_of s).number
 
--- the number of its arguments, in a0 up
-abbrev pub argument_count : Service → ℕ
-argument_count SemPost = 2
-argument_count QPost = 4
-argument_count FlagPost = 3
-argument_count TaskSemPost = 2
-argument_count TaskQPost = 4
-argument_count TimeTick = 0
-argument_count SemPend = 3
-argument_count QPend = 3
-argument_count FlagPend = 4
-argument_count MutexPend = 3
-argument_count TaskSemPend = 2
-argument_count TaskQPend = 2
-argument_count PendMulti = 4
-argument_count MutexPost = 2
-argument_count SemPendAbort = 2
-argument_count QPendAbort = 2
-argument_count FlagPendAbort = 2
-argument_count MutexPendAbort = 2
-argument_count TaskSemPendAbort = 2
-argument_count TaskQPendAbort = 2
-argument_count SemDel = 2
-argument_count QDel = 2
-argument_count FlagDel = 2
-argument_count MutexDel = 2
-argument_count TimeDly = 2
-argument_count TimeDlyResume = 1
-argument_count TimeGet = 0
-argument_count TaskSuspend = 1
-argument_count TaskResume = 1
-argument_count TaskDel = 1
-argument_count RoundRobinYield = 0
-argument_count SchedLock = 0
-argument_count SchedUnlock = 0
-argument_count TmrStart = 1
-argument_count TmrStop = 2
-argument_count TmrRemainGet = 1
-argument_count TmrStateGet = 1
-argument_count TmrDel = 1
-argument_count TaskChangePrio = 2
-argument_count (Unknown number) = 0
-
--- its name in the book; none for a number that no service has
 abbrev pub service_name : Service → List ℕ
-service_name SemPost = codes "OSSemPost"
-service_name QPost = codes "OSQPost"
-service_name FlagPost = codes "OSFlagPost"
-service_name TaskSemPost = codes "OSTaskSemPost"
-service_name TaskQPost = codes "OSTaskQPost"
-service_name TimeTick = codes "OSTimeTick"
-service_name SemPend = codes "OSSemPend"
-service_name QPend = codes "OSQPend"
-service_name FlagPend = codes "OSFlagPend"
-service_name MutexPend = codes "OSMutexPend"
-service_name TaskSemPend = codes "OSTaskSemPend"
-service_name TaskQPend = codes "OSTaskQPend"
-service_name PendMulti = codes "OSPendMulti"
-service_name MutexPost = codes "OSMutexPost"
-service_name SemPendAbort = codes "OSSemPendAbort"
-service_name QPendAbort = codes "OSQPendAbort"
-service_name FlagPendAbort = codes "OSFlagPendAbort"
-service_name MutexPendAbort = codes "OSMutexPendAbort"
-service_name TaskSemPendAbort = codes "OSTaskSemPendAbort"
-service_name TaskQPendAbort = codes "OSTaskQPendAbort"
-service_name SemDel = codes "OSSemDel"
-service_name QDel = codes "OSQDel"
-service_name FlagDel = codes "OSFlagDel"
-service_name MutexDel = codes "OSMutexDel"
-service_name TimeDly = codes "OSTimeDly"
-service_name TimeDlyResume = codes "OSTimeDlyResume"
-service_name TimeGet = codes "OSTimeGet"
-service_name TaskSuspend = codes "OSTaskSuspend"
-service_name TaskResume = codes "OSTaskResume"
-service_name TaskDel = codes "OSTaskDel"
-service_name RoundRobinYield = codes "OSSchedRoundRobinYield"
-service_name SchedLock = codes "OSSchedLock"
-service_name SchedUnlock = codes "OSSchedUnlock"
-service_name TmrStart = codes "OSTmrStart"
-service_name TmrStop = codes "OSTmrStop"
-service_name TmrRemainGet = codes "OSTmrRemainGet"
-service_name TmrStateGet = codes "OSTmrStateGet"
-service_name TmrDel = codes "OSTmrDel"
-service_name TaskChangePrio = codes "OSTaskChangePrio"
-service_name (Unknown number) = []
+service_name s = (entry_of s).name
+
+abbrev pub argument_count : Service → ℕ
+argument_count s = (entry_of s).arguments
+
+abbrev pub kinds_wanted : Service → List Kind
+kinds_wanted s = (entry_of s).kinds
+
+abbrev pub names_task : Service → Bool
+names_task s = (entry_of s).task
+
+abbrev pub names_option : Service → List ℕ → Bool
+names_option s args = (entry_of s).options args
+
+abbrev pub interrupt_error : Service → OsErr
+interrupt_error s = (entry_of s).interrupt_error
+
+-- the six services that interrupt code may use
+abbrev pub is_post : Service → Bool
+is_post s = (entry_of s).post
+
+-- the services that renew priorities
+abbrev pub renews : Service → Bool
+renews s = (entry_of s).renews

@@ -13,7 +13,7 @@ mod services;
 pub use checks::static_refusal;
 pub use errors::OsErr;
 pub use kinds::{Kind, Kinds, Method};
-pub use numbers::{NoMemory, ObjId, Prio, TaskId};
+pub use numbers::{LEAVE, NoMemory, ObjId, Prio, TaskId};
 pub use outcomes::{Answer, Around, Decision, Finished, Outcome, UnitEnd, Waiting, Who};
 pub use requests::{Post, Request};
 pub use services::Service;

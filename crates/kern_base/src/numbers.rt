@@ -17,3 +17,6 @@ pub struct Prio(pub u8);
 /// Memory was wanted and was not there.
 #[derive(Clone, Copy, Debug, PartialEq, Eq)]
 pub struct NoMemory;
+
+/// The address to which a task, an interrupt routine and a callback return. No code lies there.
+pub const LEAVE: u32 = 0xFFFF_FFF0;

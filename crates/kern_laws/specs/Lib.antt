@@ -1,3 +1,2 @@
 pub mod Laws
-pub mod Consistent
-pub mod Whole
+pub mod Inheritance

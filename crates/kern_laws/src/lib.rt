@@ -2,8 +2,8 @@
 //! state and every call. The statements stand in `specs/`, their proofs in `kern_model` and here.
 #![tactic(auto)]
 
-ghost use Rattle.kern_laws.specs.Whole.{EffectKeepsWhole, UnitKeepsWhole, FinishKeepsWhole, TrapKeepsWhole, CallbackEndKeepsWhole};
-ghost use Rattle.kern_laws.specs.Laws.{HalfEndsAsEffect, HalfEndsAsUnit, EffectKeepsValid, UnitKeepsValid, FinishKeepsValid, TrapKeepsValid, CallbackEndKeepsValid, PostsKeep, CostIsBounded, QuickCostIsBounded, UnitCostIsBounded, EffectKeepsMessages, UnitKeepsMessages, FinishKeepsMessages, TrapKeepsMessages, RenewalInherits};
+ghost use Rattle.kern_laws.specs.Inheritance.{InheritedIsLeastBase, PresentIsLeastBase, RenewedIsLeastBase};
+ghost use Rattle.kern_laws.specs.Laws.{HalfEndsAsEffect, HalfEndsAsUnit, StartIsValid, EffectKeepsValid, UnitKeepsValid, FinishKeepsValid, TrapKeepsValid, CallbackEndKeepsValid, PostsKeep, CostIsBounded, QuickCostIsBounded, UnitCostIsBounded, EffectKeepsMessages, UnitKeepsMessages, FinishKeepsMessages, TrapKeepsMessages};
 
 /// After all its micro-steps, a call has made the links of its effect.
 pub fn half_made_lists_end_as_the_effect()
@@ -13,6 +13,11 @@ pub fn half_made_lists_end_as_the_effect()
 /// After all its micro-steps, a unit of an internal task has made the links of its effect.
 pub fn half_made_lists_end_as_the_unit()
     ensures { HalfEndsAsUnit }
+{}
+
+/// The kernel at the start is valid.
+pub fn the_start_is_valid()
+    ensures { StartIsValid }
 {}
 
 /// A call keeps the kernel valid.
@@ -50,7 +55,7 @@ pub fn a_call_is_bounded()
     ensures { CostIsBounded }
 {}
 
-/// A call of a consistent kernel that renews no priorities takes at most 1,200 micro-steps, its first and last among them.
+/// A call that renews no priorities takes at most 1,200 micro-steps, its first and last among them.
 pub fn a_call_without_renewal_is_bounded()
     ensures { QuickCostIsBounded }
 {}
@@ -80,32 +85,17 @@ pub fn a_trap_keeps_the_messages()
     ensures { TrapKeepsMessages }
 {}
 
-/// After a renewal each living application task and the timer task have their inherited priorities.
-pub fn a_renewal_makes_priorities_the_inherited_ones()
-    ensures { RenewalInherits }
+/// The inherited priority is the least base priority among the tasks from which a task is reached.
+pub fn an_inherited_priority_is_the_least_base_priority()
+    ensures { InheritedIsLeastBase }
 {}
 
-/// A call keeps the whole of what the kernel keeps true of its state.
-pub fn a_call_keeps_the_kernel_whole()
-    ensures { EffectKeepsWhole }
+/// So is the present priority of each living application task and of the timer task.
+pub fn a_present_priority_is_the_least_base_priority()
+    ensures { PresentIsLeastBase }
 {}
 
-/// A unit of an internal task keeps the whole of it.
-pub fn a_unit_keeps_the_kernel_whole()
-    ensures { UnitKeepsWhole }
-{}
-
-/// A task that reads the result of its wait keeps the whole of it.
-pub fn a_finish_keeps_the_kernel_whole()
-    ensures { FinishKeepsWhole }
-{}
-
-/// A task that traps keeps the whole of it.
-pub fn a_trap_keeps_the_kernel_whole()
-    ensures { TrapKeepsWhole }
-{}
-
-/// The end of a callback keeps the whole of it.
-pub fn the_end_of_a_callback_keeps_the_kernel_whole()
-    ensures { CallbackEndKeepsWhole }
+/// So is a renewed priority.
+pub fn a_renewed_priority_is_the_least_base_priority()
+    ensures { RenewedIsLeastBase }
 {}

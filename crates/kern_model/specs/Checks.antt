@@ -5,7 +5,7 @@ use Rattle.kern_base.specs.declared.kinds.Kind.{Kind}
 use Rattle.kern_base.specs.declared.requests.Request.{Request}
 use Rattle.kern_base.specs.declared.errors.OsErr.{OsErr}
 use Rattle.kern_base.specs.declared.errors.OsErr.TheVariants.{ObjectType, TaskNotExist}
-use Rattle.kern_model.specs.State.{Kernel, Object, object_at, task_at, kinds_of}
+use Rattle.kern_model.specs.State.{Kernel, Object, object_at, task_at, kinds_of, application_limit}
 
 -- an argument of a call, from 0
 abbrev pub argument : Request → ℕ → ℕ
@@ -33,4 +33,4 @@ first_error None later = later
 
 -- The first check that a call fails. The number that names the caller may stand where an application task calls.
 abbrev pub call_error : Request → ℕ → Kernel → Option OsErr
-call_error r x k = first_error (static_error r.service r.args (kinds_of k) (nat_lt x 60)) (existence_error r x k)
+call_error r x k = first_error (static_error r.service r.args (kinds_of k) (nat_lt x application_limit)) (existence_error r x k)

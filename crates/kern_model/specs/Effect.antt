@@ -106,8 +106,8 @@ joined place x p lists = update_list lists p (λ xs. insert xs (place xs) x)
 
 -- the ready lists after x, suspended so often, waits no more
 abbrev pub woken_ready : ℕ → ℕ → ℕ → ℕ → List (List ℕ) → List (List ℕ)
-woken_ready zero p h x lists = joined (join_place p h) x p lists
-woken_ready (suc n) p h x lists = lists
+woken_ready zero p compared x lists = joined (join_place p compared) x p lists
+woken_ready (suc n) p compared x lists = lists
 
 -- the match of x is gone
 abbrev pub unmatched : ℕ → List (ℕ × ℕ) → List (ℕ × ℕ)
@@ -115,19 +115,19 @@ unmatched x matches = filter (λ m. not (m.0 == x)) matches
 
 -- the kernel after x is woken with this result
 abbrev pub wakes : Finished → ℕ → ℕ → Kernel → Kernel
-wakes f h x k =
+wakes f compared x k =
     let t = task_at k x in
     record k {
       tasks = update_task k.tasks x (answered_task f);
-      ready = woken_ready t.suspended t.prio h x k.ready;
+      ready = woken_ready t.suspended t.prio compared x k.ready;
       pend = left_all x t.objects k.pend;
       matches = unmatched x k.matches;
     }
 
 -- these tasks are woken in order, each with the result that f says
 abbrev pub wakes_all : (Task → Finished) → ℕ → List ℕ → Kernel → Kernel
-wakes_all f h [] k = k
-wakes_all f h (x ∷ xs) k = wakes_all f h xs (wakes (f (task_at k x)) h x k)
+wakes_all f compared [] k = k
+wakes_all f compared (x ∷ xs) k = wakes_all f compared xs (wakes (f (task_at k x)) compared x k)
 
 -- x leaves the lists of these objects, one after another
 abbrev pub leave_blocks : ℕ → List ℕ → List Block
@@ -136,19 +136,19 @@ leave_blocks x (o ∷ os) = leave x o ∷ leave_blocks x os
 
 -- x joins the ready list of priority p, unless it is suspended
 abbrev pub ready_blocks : ℕ → ℕ → ℕ → ℕ → List Block
-ready_blocks zero x p h = readied x p h ∷ []
-ready_blocks (suc n) x p h = []
+ready_blocks zero x p compared = readied x p compared ∷ []
+ready_blocks (suc n) x p compared = []
 
 -- the blocks of a wake
 abbrev pub wake_blocks : Kernel → ℕ → ℕ → List Block
-wake_blocks k h x =
+wake_blocks k compared x =
     let t = task_at k x in
-    leave_blocks x t.objects ++ ready_blocks t.suspended x t.prio h
+    leave_blocks x t.objects ++ ready_blocks t.suspended x t.prio compared
 
 -- the blocks of several wakes
 abbrev pub wakes_blocks : Kernel → ℕ → List ℕ → List Block
-wakes_blocks k h [] = []
-wakes_blocks k h (x ∷ xs) = wake_blocks k h x ++ wakes_blocks k h xs
+wakes_blocks k compared [] = []
+wakes_blocks k compared (x ∷ xs) = wake_blocks k compared x ++ wakes_blocks k compared xs
 
 -- how many micro-steps it takes to wake a task, and to wake these tasks
 abbrev pub wake_cost : Task → ℕ
@@ -161,7 +161,7 @@ wakes_cost k (x ∷ xs) = wake_cost (task_at k x) + wakes_cost k xs
 
 -- a post, an abort or a deletion that wakes these
 abbrev pub woken : (Task → Finished) → Answer → ℕ → List ℕ → Kernel → Effect
-woken f a h xs k = record { kernel = wakes_all f h xs k; outcome = answers a; blocks = wakes_blocks k h xs }
+woken f a compared xs k = record { kernel = wakes_all f compared xs k; outcome = answers a; blocks = wakes_blocks k compared xs }
 
 -- the first of the waiters, and all where the option says so
 abbrev pub chosen : Bool → List ℕ → List ℕ
@@ -224,6 +224,6 @@ abbrev pub blocks_on : Kernel → ℕ → Wait → Effect
 blocks_on k x w = record { kernel = blocked k x w; outcome = Waits; blocks = block_blocks k x w.objects }
 
 -- a call that can not go on at once: it is non-blocking, or the scheduler is locked, or the caller blocks
-abbrev pub tail : Kernel → Bool → Effect → Effect
-tail k true e = refused k WouldBlock
-tail k false e = if k.lock == 0 then e else refused k SchedLocked
+abbrev pub waits_unless : Kernel → Bool → Effect → Effect
+waits_unless k true e = refused k WouldBlock
+waits_unless k false e = if k.lock == 0 then e else refused k SchedLocked

@@ -4,7 +4,7 @@ use Rattle.std.specs.Prelude.{ℕ, zero, suc, ◌+◌, Bool, true, false, not, �
 use Rattle.kern_base.specs.declared.services.Service.TheVariants.{MutexPend}
 use Rattle.kern_base.specs.declared.outcomes.Waiting.{Waiting}
 use Rattle.kern_base.specs.declared.outcomes.Waiting.TheVariants.{Obj}
-use Rattle.kern_model.specs.State.{Kernel, Task, Content, Held, update_list, update_task, without, task_at, object_at, prio_of, is_ready, waits_for_nothing}
+use Rattle.kern_model.specs.State.{Kernel, Task, Content, Held, update_list, update_task, without, task_at, object_at, prio_of, is_ready, waits_for_nothing, table_size, idle_priority, application_limit, timer_task}
 use Rattle.kern_model.specs.Micro.{Block, unready, readied_at, leave, wait, wait_place}
 use Rattle.kern_model.specs.Effect.{Effect, joined}
 
@@ -35,7 +35,7 @@ reaches_by (suc n) k x (Some u) = (u == x) || reaches_by n k x (waits_on k u)
 
 -- whether x is reached from u; no chain of mutexes has more than 64 tasks
 abbrev pub reaches : Kernel → ℕ → ℕ → Bool
-reaches k u x = reaches_by 64 k x (Some u)
+reaches k u x = reaches_by table_size k x (Some u)
 
 -- the numbers from a on, so many
 abbrev pub numbers : ℕ → ℕ → List ℕ
@@ -44,12 +44,12 @@ numbers a (suc n) = a ∷ numbers (a + 1) n
 
 -- the least base priority among those of these tasks from which x is reached
 abbrev pub least_of : ℕ → List ℕ → Kernel → ℕ
-least_of x [] k = 63
-least_of x (u ∷ us) k = min (if reaches k u x then (task_at k u).base else 63) (least_of x us k)
+least_of x [] k = idle_priority
+least_of x (u ∷ us) k = min (if reaches k u x then (task_at k u).base else idle_priority) (least_of x us k)
 
 -- The inherited priority of a task: the least base priority among it and all tasks from which it is reached.
 abbrev pub inherited : Kernel → ℕ → ℕ
-inherited k x = least_of x (numbers 0 64) k
+inherited k x = least_of x (numbers 0 table_size) k
 
 -- To move a task to another priority: it goes to its place in the ready list of that priority, or among the waiters of each
 -- of its objects.
@@ -104,7 +104,7 @@ move_blocks place x p k =
 
 -- the numbers of the tasks that inherit
 abbrev pub renewed_tasks : List ℕ
-renewed_tasks = numbers 0 60 ++ 61 ∷ []
+renewed_tasks = numbers 0 application_limit ++ timer_task ∷ []
 
 -- the moves to be made, as pairs of task and priority
 abbrev pub moves_of : List ℕ → Kernel → List (ℕ × ℕ)

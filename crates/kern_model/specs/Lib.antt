@@ -5,8 +5,10 @@ pub mod Checks
 pub mod Semaphores
 pub mod Queues
 pub mod FlagBits
+pub mod Options
 pub mod Flags
 pub mod Inherit
+pub mod Reached
 pub mod Mutexes
 pub mod Waiters
 pub mod TaskObjects
@@ -15,8 +17,11 @@ pub mod Tasks
 pub mod RoundRobin
 pub mod Time
 pub mod Timers
+pub mod Call
 pub mod Services
+pub mod Posts
 pub mod Finish
 pub mod Stop
 pub mod Valid
 pub mod Pool
+pub mod Start

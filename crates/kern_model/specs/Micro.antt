@@ -85,7 +85,7 @@ unready x p l = LeaveForward (Ready p) x ∷ LeaveBack (Ready p) x ∷ []
 
 -- the place of a task that joins a ready list: the tail where its priority is the compared one, else the head
 abbrev pub join_place : ℕ → ℕ → List ℕ → ℕ
-join_place p h xs = if p == h then length xs else 0
+join_place p compared xs = if p == compared then length xs else 0
 
 -- the place at the tail
 abbrev pub at_tail : List ℕ → ℕ
@@ -103,7 +103,7 @@ readied_at place x p l =
 
 -- the task joins its ready list, where the compared priority says
 abbrev pub readied : ℕ → ℕ → ℕ → Block
-readied x p h = readied_at (join_place p h) x p
+readied x p compared = readied_at (join_place p compared) x p
 
 -- how many waiters stand before a new one of this priority
 abbrev pub wait_place : (ℕ → ℕ) → ℕ → List ℕ → ℕ

@@ -6,8 +6,8 @@ use Rattle.kern_base.specs.declared.requests.Request.{Request}
 use Rattle.kern_base.specs.declared.errors.OsErr.{OsErr}
 use Rattle.kern_base.specs.declared.errors.OsErr.TheVariants.{ObjectType, QueueMax, PoolEmpty}
 use Rattle.kern_model.specs.State.{Kernel, Content, Messages, list_at, with_content}
-use Rattle.kern_model.specs.FlagBits.{has_bit}
-use Rattle.kern_model.specs.Effect.{Effect, refused, done, fine, message, woken, chosen, posted_result, tail, blocks_on, waits_for}
+use Rattle.kern_model.specs.Effect.{Effect, refused, done, fine, message, woken, chosen, posted_result, waits_unless, blocks_on, waits_for}
+use Rattle.kern_model.specs.Options.{stores_first, hands_to_all, does_not_wait}
 use Rattle.kern_model.specs.Checks.{argument}
 
 -- the messages after one more is stored: first with LIFO, else last
@@ -27,21 +27,32 @@ store_in None o limit ms k = done (record (with_content k o (Messages limit ms))
 -- OSQPost: hands the message to the first waiter, or with option bit 1 to all of them; where nobody waits it is stored, with
 -- option bit 0 as the first.
 abbrev pub q_post_to : List ℕ → ℕ → List (ℕ × ℕ) → Request → ℕ → Kernel → Effect
-q_post_to [] limit ms r h k =
-    let opt = argument r 3 in
-    store_in (store_error (length ms) limit k.free) (argument r 0) limit (stored (has_bit opt 1) (argument r 1, argument r 2) ms) k
-q_post_to (x ∷ xs) limit ms r h k =
-    woken (posted_result (argument r 0) (message (argument r 1) (argument r 2))) (fine 0) h (chosen (has_bit (argument r 3) 2) (x ∷ xs)) k
+q_post_to [] limit ms r compared k =
+    let queue = argument r 0 in
+    let address = argument r 1 in
+    let size = argument r 2 in
+    let option = argument r 3 in
+    store_in (store_error (length ms) limit k.free) queue limit (stored (stores_first option) (address, size) ms) k
+q_post_to (x ∷ xs) limit ms r compared k =
+    let queue = argument r 0 in
+    let address = argument r 1 in
+    let size = argument r 2 in
+    let option = argument r 3 in
+    woken (posted_result queue (message address size)) (fine 0) compared (chosen (hands_to_all option) (x ∷ xs)) k
 
 -- OSQPost on what an object holds
 abbrev pub q_post : Content → Request → ℕ → Kernel → Effect
-q_post (Messages limit ms) r h k = q_post_to (list_at k.pend (argument r 0)) limit ms r h k
-q_post content r h k = refused k ObjectType
+q_post (Messages limit ms) r compared k = let queue = argument r 0 in q_post_to (list_at k.pend queue) limit ms r compared k
+q_post content r compared k = refused k ObjectType
 
 -- OSQPend: takes the first message; where there is none the caller waits.
 abbrev pub q_pend : Content → Request → ℕ → Kernel → Effect
 q_pend (Messages limit []) r x k =
-    tail k (argument r 2 == 1) (blocks_on k x (waits_for (Obj QPend) (argument r 0 ∷ []) (argument r 1)))
+    let queue = argument r 0 in
+    let timeout = argument r 1 in
+    let option = argument r 2 in
+    waits_unless k (does_not_wait option) (blocks_on k x (waits_for (Obj QPend) (queue ∷ []) timeout))
 q_pend (Messages limit (m ∷ ms)) r x k =
-    done (record (with_content k (argument r 0) (Messages limit ms)) { free = k.free + 1 }) (message m.0 m.1)
+    let queue = argument r 0 in
+    done (record (with_content k queue (Messages limit ms)) { free = k.free + 1 }) (message m.0 m.1)
 q_pend content r x k = refused k ObjectType

@@ -7,7 +7,7 @@ use Rattle.kern_model.specs.Effect.{Effect, refused, done, answers, fine, joined
 
 -- the head of a ready list
 abbrev pub first_in : List ℕ → ℕ
-first_in [] = 62
+first_in [] = idle_task
 first_in (x ∷ xs) = x
 
 -- the task has its full quantum again
@@ -32,10 +32,10 @@ spends (y ∷ z ∷ zs) p k =
     let j = with_task k y (λ t. record t { quantum = t.quantum - 1 }) in
     if (task_at j y).quantum == 0 then rotates y p j else done j (fine 0)
 
--- Round robin at a tick looks at the list of priority c; it is idle where it is off, under the lock, and for the idle task.
+-- Round robin at a tick looks at the list of the interrupted priority; it is idle where it is off, under the lock, and for the idle task.
 abbrev pub round_robin : ℕ → Kernel → Effect
-round_robin c k =
-    if k.settings.round_robin && ((k.lock == 0) && not (first_in (list_at k.ready c) == idle_task)) then spends (list_at k.ready c) c k
+round_robin interrupted k =
+    if k.settings.round_robin && ((k.lock == 0) && not (first_in (list_at k.ready interrupted) == idle_task)) then spends (list_at k.ready interrupted) interrupted k
     else done k (fine 0)
 
 -- whether no other task stands in a list

@@ -1,11 +1,13 @@
 -- The services of the kernel: each is one whole change of plain lists, and a list of micro-steps.
 use Rattle.std.specs.Prelude.{ℕ, Bool, true, false, List, length, Option, Some, None, if◌then◌else◌, ◌==◌, take, replicate}
+pub use Rattle.kern_base.specs.Services.{renews}
 use Rattle.kern_base.specs.declared.services.Service.{Service}
 use Rattle.kern_base.specs.declared.services.Service.TheVariants.{SemPost, QPost, FlagPost, TaskSemPost, TaskQPost, TimeTick, SemPend, QPend, FlagPend, MutexPend, TaskSemPend, TaskQPend, PendMulti, MutexPost, SemPendAbort, QPendAbort, FlagPendAbort, MutexPendAbort, TaskSemPendAbort, TaskQPendAbort, SemDel, QDel, FlagDel, MutexDel, TimeDly, TimeDlyResume, TimeGet, TaskSuspend, TaskResume, TaskDel, RoundRobinYield, SchedLock, SchedUnlock, TmrStart, TmrStop, TmrRemainGet, TmrStateGet, TmrDel, TaskChangePrio, Unknown}
 use Rattle.kern_base.specs.declared.requests.Request.{Request}
 use Rattle.kern_base.specs.declared.errors.OsErr.{OsErr}
 use Rattle.kern_base.specs.declared.errors.OsErr.TheVariants.{CallUnknown}
 use Rattle.kern_model.specs.State.{Kernel, Content, object_at, handler_task, tick_task}
+use Rattle.kern_model.specs.Call.{Call, call_of}
 use Rattle.kern_model.specs.Effect.{Effect, refused}
 use Rattle.kern_model.specs.Checks.{argument, call_error}
 use Rattle.kern_model.specs.Semaphores.{sem_post, sem_pend}
@@ -25,60 +27,59 @@ use Rattle.kern_model.specs.Micro.{Micro, Halves, whole_step, whole, lists_of, c
 abbrev pub content_for : Request → Kernel → Content
 content_for r k = (object_at k (argument r 0)).content
 
--- The service of a request that passed its checks, by a caller; c is the priority whose list round robin looks at, h the
--- one that `ready` compares with.
-abbrev pub row_of : Service → Request → ℕ → ℕ → ℕ → Kernel → Effect
-row_of SemPost r x c h k = sem_post (content_for r k) r h k
-row_of QPost r x c h k = q_post (content_for r k) r h k
-row_of FlagPost r x c h k = flag_post (content_for r k) r h k
-row_of TaskSemPost r x c h k = task_sem_post r x h k
-row_of TaskQPost r x c h k = task_q_post r x h k
-row_of TimeTick r x c h k = time_tick c h k
-row_of SemPend r x c h k = sem_pend (content_for r k) r x k
-row_of QPend r x c h k = q_pend (content_for r k) r x k
-row_of FlagPend r x c h k = flag_pend (content_for r k) r x k
-row_of MutexPend r x c h k = mutex_pend (content_for r k) r x k
-row_of TaskSemPend r x c h k = task_sem_pend r x k
-row_of TaskQPend r x c h k = task_q_pend r x k
-row_of PendMulti r x c h k = pend_multi r x k
-row_of MutexPost r x c h k = mutex_post (content_for r k) r x h k
-row_of SemPendAbort r x c h k = pend_abort r h k
-row_of QPendAbort r x c h k = pend_abort r h k
-row_of FlagPendAbort r x c h k = pend_abort r h k
-row_of MutexPendAbort r x c h k = mutex_pend_abort r h k
-row_of TaskSemPendAbort r x c h k = task_abort waits_for_semaphore r x h k
-row_of TaskQPendAbort r x c h k = task_abort waits_for_queue r x h k
-row_of SemDel r x c h k = delete r h k
-row_of QDel r x c h k = delete r h k
-row_of FlagDel r x c h k = delete r h k
-row_of MutexDel r x c h k = mutex_del r h k
-row_of TimeDly r x c h k = time_dly r x k
-row_of TimeDlyResume r x c h k = time_dly_resume r x h k
-row_of TimeGet r x c h k = time_get k
-row_of TaskSuspend r x c h k = task_suspend r x k
-row_of TaskResume r x c h k = task_resume r x h k
-row_of TaskDel r x c h k = task_del r x k
-row_of RoundRobinYield r x c h k = round_robin_yield x k
-row_of SchedLock r x c h k = sched_lock k
-row_of SchedUnlock r x c h k = sched_unlock x k
-row_of TmrStart r x c h k = tmr_start (content_for r k) r k
-row_of TmrStop r x c h k = tmr_stop (content_for r k) r k
-row_of TmrRemainGet r x c h k = tmr_remain_get (content_for r k) r k
-row_of TmrStateGet r x c h k = tmr_state_get (content_for r k) k
-row_of TmrDel r x c h k = tmr_del (content_for r k) r k
-row_of TaskChangePrio r x c h k = task_change_prio r x k
-row_of (Unknown number) r x c h k = refused k CallUnknown
+-- The service of a call that passed its checks.
+abbrev pub perform : Service → Call → Kernel → Effect
+perform SemPost call k = sem_post (content_for call.request k) call.request call.compared k
+perform QPost call k = q_post (content_for call.request k) call.request call.compared k
+perform FlagPost call k = flag_post (content_for call.request k) call.request call.compared k
+perform TaskSemPost call k = task_sem_post call.request call.caller call.compared k
+perform TaskQPost call k = task_q_post call.request call.caller call.compared k
+perform TimeTick call k = time_tick call.interrupted call.compared k
+perform SemPend call k = sem_pend (content_for call.request k) call.request call.caller k
+perform QPend call k = q_pend (content_for call.request k) call.request call.caller k
+perform FlagPend call k = flag_pend (content_for call.request k) call.request call.caller k
+perform MutexPend call k = mutex_pend (content_for call.request k) call.request call.caller k
+perform TaskSemPend call k = task_sem_pend call.request call.caller k
+perform TaskQPend call k = task_q_pend call.request call.caller k
+perform PendMulti call k = pend_multi call.request call.caller k
+perform MutexPost call k = mutex_post (content_for call.request k) call.request call.caller call.compared k
+perform SemPendAbort call k = pend_abort call.request call.compared k
+perform QPendAbort call k = pend_abort call.request call.compared k
+perform FlagPendAbort call k = pend_abort call.request call.compared k
+perform MutexPendAbort call k = mutex_pend_abort call.request call.compared k
+perform TaskSemPendAbort call k = task_abort waits_for_semaphore call.request call.caller call.compared k
+perform TaskQPendAbort call k = task_abort waits_for_queue call.request call.caller call.compared k
+perform SemDel call k = delete call.request call.compared k
+perform QDel call k = delete call.request call.compared k
+perform FlagDel call k = delete call.request call.compared k
+perform MutexDel call k = mutex_del call.request call.compared k
+perform TimeDly call k = time_dly call.request call.caller k
+perform TimeDlyResume call k = time_dly_resume call.request call.caller call.compared k
+perform TimeGet call k = time_get k
+perform TaskSuspend call k = task_suspend call.request call.caller k
+perform TaskResume call k = task_resume call.request call.caller call.compared k
+perform TaskDel call k = task_del call.request call.caller k
+perform RoundRobinYield call k = round_robin_yield call.caller k
+perform SchedLock call k = sched_lock k
+perform SchedUnlock call k = sched_unlock call.caller k
+perform TmrStart call k = tmr_start (content_for call.request k) call.request k
+perform TmrStop call k = tmr_stop (content_for call.request k) call.request k
+perform TmrRemainGet call k = tmr_remain_get (content_for call.request k) call.request k
+perform TmrStateGet call k = tmr_state_get (content_for call.request k) k
+perform TmrDel call k = tmr_del (content_for call.request k) call.request k
+perform TaskChangePrio call k = task_change_prio call.request call.caller k
+perform (Unknown number) call k = refused k CallUnknown
 
 -- a call that failed a check is refused, any other goes to its service
-abbrev pub after_checks : Option OsErr → Request → ℕ → ℕ → ℕ → Kernel → Effect
-after_checks (Some err) r x c h k = refused k err
-after_checks None r x c h k = row_of r.service r x c h k
+abbrev pub after_checks : Option OsErr → Call → Kernel → Effect
+after_checks (Some err) call k = refused k err
+after_checks None call k = perform call.request.service call k
 
--- What a call does: request, caller, c, h, kernel. A service that is not served counts as an unknown number. A call from
+-- What a call does. A service that is not served counts as an unknown number. A call from
 -- interrupt code that is no post never comes to the kernel: the machine answers it.
-abbrev pub effect : (Service → Bool) → Request → ℕ → ℕ → ℕ → Kernel → Effect
-effect served r x c h k =
-    if served r.service then after_checks (call_error r x k) r x c h k else refused k CallUnknown
+abbrev pub effect : (Service → Bool) → Call → Kernel → Effect
+effect served call k =
+    if served call.request.service then after_checks (call_error call.request call.caller k) call k else refused k CallUnknown
 
 -- every service
 abbrev pub serves_all : Service → Bool
@@ -91,23 +92,13 @@ program_serves SemPost = true
 program_serves SemPend = true
 program_serves _ = false
 
--- the services that renew priorities
-abbrev pub renews : Service → Bool
-renews MutexPend = true
-renews MutexPost = true
-renews MutexPendAbort = true
-renews MutexDel = true
-renews TaskDel = true
-renews TaskChangePrio = true
-renews _ = false
-
 -- a post as a request
 abbrev pub post_request : Service → List ℕ → Request
 post_request s args = record { service = s; args = args; ids = replicate 8 0; n_ids = 0; table = false }
 
 -- A post without a caller, from interrupt code or by the handler of deferred posts.
 abbrev pub posted : (Service → Bool) → Service → List ℕ → ℕ → ℕ → Kernel → Effect
-posted served s args c h k = effect served (post_request s args) handler_task c h k
+posted served s args interrupted compared k = effect served (call_of (post_request s args) handler_task interrupted compared) k
 
 -- What a unit of work of the tick task or of the timer task does.
 abbrev pub unit_effect : ℕ → Kernel → Effect

@@ -1,5 +1,5 @@
 -- OSPendMulti: the wait for the first of several semaphores and queues.
-use Rattle.std.specs.Prelude.{ℕ, zero, suc, ◌+◌, ◌*◌, Bool, false, not, ◌||◌, List, [], ◌∷◌, ◌++◌, map, take, replicate, if◌then◌else◌, ◌==◌, nat_lt, Option, Some, None, slice_get}
+use Rattle.std.specs.Prelude.{ℕ, zero, suc, ◌+◌, ◌*◌, Bool, false, not, ◌||◌, List, [], ◌∷◌, ◌++◌, map, take, replicate, if◌then◌else◌, nat_lt, Option, Some, None, slice_get}
 use Rattle.kern_base.specs.Tables.{KindTable}
 use Rattle.kern_base.specs.Checks.{object_error}
 use Rattle.kern_base.specs.declared.kinds.Kind.TheVariants.{Sem, Queue}
@@ -12,7 +12,8 @@ use Rattle.kern_base.specs.declared.errors.OsErr.{OsErr}
 use Rattle.kern_base.specs.declared.errors.OsErr.TheVariants.{Table, ObjectType}
 use Rattle.kern_model.specs.State.{Kernel, Content, Count, Messages, object_at, with_content, count_of, is_zero, kinds_of}
 use Rattle.kern_model.specs.Micro.{plain}
-use Rattle.kern_model.specs.Effect.{Effect, Wait, refused, fine, tail, blocks_on}
+use Rattle.kern_model.specs.Effect.{Effect, Wait, refused, fine, waits_unless, blocks_on}
+use Rattle.kern_model.specs.Options.{does_not_wait}
 use Rattle.kern_model.specs.Checks.{argument, first_error}
 
 -- the objects of the table
@@ -102,8 +103,11 @@ after_polls os e = record { kernel = e.kernel; outcome = e.outcome; blocks = map
 -- where some are ready they are taken from, and else the caller waits for all
 abbrev pub multi_takes : ℕ → List (Option (ℕ × ℕ)) → Request → ℕ → Kernel → Effect
 multi_takes zero ps r x k =
-    let w : Wait = record { waiting = Multi; objects = table_objects r; mask = 0; opt = 0; table = argument r 0; timeout = argument r 2 } in
-    tail k (argument r 3 == 1) (blocks_on k x w)
+    let address = argument r 0 in
+    let timeout = argument r 2 in
+    let option = argument r 3 in
+    let w : Wait = record { waiting = Multi; objects = table_objects r; mask = 0; opt = 0; table = address; timeout = timeout } in
+    waits_unless k (does_not_wait option) (blocks_on k x w)
 multi_takes (suc n) ps r x k =
     record { kernel = taken_all (table_objects r) k; outcome = Answered (fine (suc n)) (Some (taken_result r ps)); blocks = [] }
 

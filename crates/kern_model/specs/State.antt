@@ -86,6 +86,25 @@ pub record Kernel : Type 0 where
   pub free : ℕ
   pub settings : Settings
 
+-- there are so many records of tasks, and so many priorities
+abbrev pub table_size : ℕ
+table_size = 64
+
+-- application tasks have the numbers below this
+abbrev pub application_limit : ℕ
+application_limit = 60
+
+-- the idle task's priority, and the lowest of all other tasks
+abbrev pub idle_priority : ℕ
+idle_priority = 63
+
+abbrev pub lowest_priority : ℕ
+lowest_priority = 62
+
+-- a task is suspended, a mutex nested and the scheduler locked so often at most
+abbrev pub nesting_limit : ℕ
+nesting_limit = 250
+
 -- the tasks that are no application's: they stand at these numbers
 abbrev pub tick_task : ℕ
 tick_task = 60
@@ -126,19 +145,27 @@ place_of x (y ∷ ys) = if y == x then 0 else 1 + place_of x ys
 
 -- what stands at a number without a task
 abbrev pub no_task : Task
-no_task = record { base = 63; prio = 63; alive = false; waiting = No; objects = []; mask = 0; opt = 0; table = 0; suspended = 0; count = 0; messages = []; limit = 0; quantum = 0; full = 0; answered = None }
+no_task = record { base = idle_priority; prio = idle_priority; alive = false; waiting = No; objects = []; mask = 0; opt = 0; table = 0; suspended = 0; count = 0; messages = []; limit = 0; quantum = 0; full = 0; answered = None }
 
 -- what stands at a number without an object
 abbrev pub no_object : Object
 no_object = record { content = Count 0; deleted = true }
 
+-- the task of a number, in a table of tasks
+abbrev pub task_in : List Task → ℕ → Task
+task_in tasks x = slice_index_or tasks x no_task
+
+-- the object of a number, in a table of objects
+abbrev pub object_in : List Object → ℕ → Object
+object_in objects o = slice_index_or objects o no_object
+
 -- the task of a number
 abbrev pub task_at : Kernel → ℕ → Task
-task_at k x = slice_index_or k.tasks x no_task
+task_at k x = task_in k.tasks x
 
 -- the object of a number
 abbrev pub object_at : Kernel → ℕ → Object
-object_at k o = slice_index_or k.objects o no_object
+object_at k o = object_in k.objects o
 
 -- the present priority of a task
 abbrev pub prio_of : Kernel → ℕ → ℕ
@@ -193,7 +220,7 @@ is_ready t = t.alive && (waits_for_nothing t.waiting && is_zero t.suspended)
 
 -- The first task of the first list that is not empty; the idle task, where all are empty.
 abbrev pub first_of : List (List ℕ) → ℕ
-first_of [] = 62
+first_of [] = idle_task
 first_of ([] ∷ lists) = first_of lists
 first_of ((x ∷ xs) ∷ lists) = x
 

@@ -6,7 +6,7 @@ use Rattle.kern_base.specs.declared.outcomes.Outcome.{Outcome}
 use Rattle.kern_base.specs.declared.outcomes.Outcome.TheVariants.{Waits, Gone}
 use Rattle.kern_base.specs.declared.requests.Request.{Request}
 use Rattle.kern_base.specs.declared.errors.OsErr.TheVariants.{SchedLocked, Depth, TaskResumeSelf, TaskNotSuspended, PrioInvalid, LockOverflow, SchedNotLocked}
-use Rattle.kern_model.specs.State.{Kernel, Task, task_at, with_task, update_task, update_list, without, is_ready, waits_for_nothing, timer_task}
+use Rattle.kern_model.specs.State.{Kernel, Task, task_at, with_task, update_task, update_list, without, is_ready, waits_for_nothing, timer_task, nesting_limit, lowest_priority}
 use Rattle.kern_model.specs.Micro.{Block, unready, at_tail}
 use Rattle.kern_model.specs.Effect.{Effect, refused, done, answer, answers, fine, plain_result, left_all, leave_blocks, woken_ready, ready_blocks, unmatched}
 use Rattle.kern_model.specs.Checks.{argument, named_task}
@@ -43,34 +43,34 @@ abbrev pub task_suspend : Request → ℕ → Kernel → Effect
 task_suspend r x k =
     let y = named_task r x in
     if (y == x) && nat_lt 0 k.lock then refused k SchedLocked
-    else (if (task_at k y).suspended == 250 then refused k Depth else suspends (y == x) y k)
+    else (if (task_at k y).suspended == nesting_limit then refused k Depth else suspends (y == x) y k)
 
 -- OSTaskResume: the suspension count of another task falls; at 0 it is ready where it waits for nothing.
 abbrev pub resumed_ready : Bool → ℕ → ℕ → ℕ → ℕ → List (List ℕ) → List (List ℕ)
-resumed_ready true n p h x lists = woken_ready n p h x lists
-resumed_ready false n p h x lists = lists
+resumed_ready true n p compared x lists = woken_ready n p compared x lists
+resumed_ready false n p compared x lists = lists
 
 -- the blocks of that
 abbrev pub resumed_blocks : Bool → ℕ → ℕ → ℕ → ℕ → List Block
-resumed_blocks true n x p h = ready_blocks n x p h
-resumed_blocks false n x p h = []
+resumed_blocks true n x p compared = ready_blocks n x p compared
+resumed_blocks false n x p compared = []
 
 -- x, suspended so often, is resumed once
 abbrev pub resumes : ℕ → ℕ → ℕ → Kernel → Effect
-resumes zero x h k = refused k TaskNotSuspended
-resumes (suc n) x h k =
+resumes zero x compared k = refused k TaskNotSuspended
+resumes (suc n) x compared k =
     let t = task_at k x in
     record {
-      kernel = record k { tasks = update_task k.tasks x (λ t. record t { suspended = n }); ready = resumed_ready (waits_for_nothing t.waiting) n t.prio h x k.ready };
+      kernel = record k { tasks = update_task k.tasks x (λ t. record t { suspended = n }); ready = resumed_ready (waits_for_nothing t.waiting) n t.prio compared x k.ready };
       outcome = answers (fine 0);
-      blocks = resumed_blocks (waits_for_nothing t.waiting) n x t.prio h;
+      blocks = resumed_blocks (waits_for_nothing t.waiting) n x t.prio compared;
     }
 
 -- OSTaskResume of the task that the call names, which must not be the caller
 abbrev pub task_resume : Request → ℕ → ℕ → Kernel → Effect
-task_resume r x h k =
+task_resume r x compared k =
     let y = named_task r x in
-    if y == x then refused k TaskResumeSelf else resumes (task_at k y).suspended y h k
+    if y == x then refused k TaskResumeSelf else resumes (task_at k y).suspended y compared k
 
 -- OSTaskDel: the task leaves its lists, its timeout and its waiting result are gone and its messages are free; it keeps its
 -- mutexes. Priorities are renewed.
@@ -103,13 +103,13 @@ task_del r x k =
 -- OSTaskChangePrio: the task's base priority becomes another, and priorities are renewed.
 abbrev pub task_change_prio : Request → ℕ → Kernel → Effect
 task_change_prio r x k =
-    let p = argument r 1 in
-    if nat_le 1 p && nat_le p 62 then renewing at_tail (done (with_task k (named_task r x) (λ t. record t { base = p })) (fine 0))
+    let priority = argument r 1 in
+    if nat_le 1 priority && nat_le priority lowest_priority then renewing at_tail (done (with_task k (named_task r x) (λ t. record t { base = priority })) (fine 0))
     else refused k PrioInvalid
 
 -- OSSchedLock: the scheduler is locked once more, up to 250 times.
 abbrev pub sched_lock : Kernel → Effect
-sched_lock k = if k.lock == 250 then refused k LockOverflow else done (record k { lock = k.lock + 1 }) (fine (k.lock + 1))
+sched_lock k = if k.lock == nesting_limit then refused k LockOverflow else done (record k { lock = k.lock + 1 }) (fine (k.lock + 1))
 
 -- OSSchedUnlock: the lock falls; a callback can not undo the timer task's own.
 abbrev pub unlocks : ℕ → Kernel → Effect

@@ -10,13 +10,17 @@ use Rattle.kern_base.specs.declared.errors.OsErr.TheVariants.{SchedLocked, ZeroD
 use Rattle.kern_model.specs.State.{Kernel, Task, task_at, prio_of, update_list, update_task, without, is_zero, tick_task, timer_task}
 use Rattle.kern_model.specs.Micro.{unready, readied, join_place, at_tail}
 use Rattle.kern_model.specs.Effect.{Effect, refused, done, answer, answers, fine, woken, waited, result_of, joined, blocks_on, waits_for, and_then}
+use Rattle.kern_model.specs.Options.{waits_until}
 use Rattle.kern_model.specs.Checks.{argument, named_task}
 use Rattle.kern_model.specs.Inherit.{renewing}
 use Rattle.kern_model.specs.RoundRobin.{round_robin}
 
 -- OSTimeDly: the caller waits for so many ticks, or with option 1 until the tick counter has this value.
 abbrev pub delay_of : Request → ℕ → ℕ
-delay_of r ticks = if argument r 1 == 1 then (argument r 0 + 2 ^ 32 - ticks) % 2 ^ 32 else argument r 0
+delay_of r ticks =
+    let time = argument r 0 in
+    let option = argument r 1 in
+    if waits_until option then (time + 2 ^ 32 - ticks) % 2 ^ 32 else time
 
 -- the caller waits for so many ticks, but not for none
 abbrev pub delays : ℕ → ℕ → Kernel → Effect
@@ -29,13 +33,13 @@ time_dly r x k = if k.lock == 0 then delays (delay_of r k.ticks) x k else refuse
 
 -- OSTimeDlyResume: a task in a delay waits no more; the caller is told where it is suspended too.
 abbrev pub resumes_delayed : Waiting → ℕ → ℕ → Kernel → Effect
-resumes_delayed Delay x h k =
-    woken (result_of (fine 0)) (if is_zero (task_at k x).suspended then fine 0 else answer TaskSuspended 0) h (x ∷ []) k
-resumes_delayed w x h k = refused k TaskNotDelayed
+resumes_delayed Delay x compared k =
+    woken (result_of (fine 0)) (if is_zero (task_at k x).suspended then fine 0 else answer TaskSuspended 0) compared (x ∷ []) k
+resumes_delayed w x compared k = refused k TaskNotDelayed
 
 -- OSTimeDlyResume of the task that the call names
 abbrev pub time_dly_resume : Request → ℕ → ℕ → Kernel → Effect
-time_dly_resume r x h k = let y = named_task r x in resumes_delayed (task_at k y).waiting y h k
+time_dly_resume r x compared k = let y = named_task r x in resumes_delayed (task_at k y).waiting y compared k
 
 -- OSTimeGet: the tick counter.
 abbrev pub time_get : Kernel → Effect
@@ -43,28 +47,28 @@ time_get k = done k (fine k.ticks)
 
 -- an internal task that waits for a signal is ready again
 abbrev pub signalled : Waiting → ℕ → ℕ → Kernel → Effect
-signalled Signal x h k =
+signalled Signal x compared k =
     let p = prio_of k x in
     record {
-      kernel = record k { tasks = update_task k.tasks x (λ t. record t { waiting = No }); ready = joined (join_place p h) x p k.ready };
+      kernel = record k { tasks = update_task k.tasks x (λ t. record t { waiting = No }); ready = joined (join_place p compared) x p k.ready };
       outcome = answers (fine 0);
-      blocks = readied x p h ∷ [];
+      blocks = readied x p compared ∷ [];
     }
-signalled w x h k = done k (fine 0)
+signalled w x compared k = done k (fine 0)
 
 -- the tick task gets a signal
 abbrev pub signals_tick : ℕ → Kernel → Effect
-signals_tick h k = signalled (task_at k tick_task).waiting tick_task h (record k { tick_signals = k.tick_signals + 1 })
+signals_tick compared k = signalled (task_at k tick_task).waiting tick_task compared (record k { tick_signals = k.tick_signals + 1 })
 
 -- at every so many'th call the timer task gets a signal
 abbrev pub signals_timer : ℕ → Kernel → Effect
-signals_timer h k =
+signals_timer compared k =
     if nat_lt (k.tick_calls + 1) k.settings.tmr_div then done (record k { tick_calls = k.tick_calls + 1 }) (fine 0)
-    else signalled (task_at k timer_task).waiting timer_task h (record k { tick_calls = 0; timer_signals = k.timer_signals + 1 })
+    else signalled (task_at k timer_task).waiting timer_task compared (record k { tick_calls = 0; timer_signals = k.timer_signals + 1 })
 
 -- OSTimeTick: signals the tick task, then round robin, then signals the timer task.
 abbrev pub time_tick : ℕ → ℕ → Kernel → Effect
-time_tick c h k = and_then (and_then (signals_tick h k) (round_robin c)) (signals_timer h)
+time_tick interrupted compared k = and_then (and_then (signals_tick compared k) (round_robin interrupted)) (signals_timer compared)
 
 -- the tasks whose match is this tick, in the order in which they got it
 abbrev pub due : ℕ → List (ℕ × ℕ) → List ℕ

@@ -24,7 +24,7 @@ rests o t state k = record (with_content k o (Timed (record t { state = state })
 
 -- OSTmrStart: the timer runs, from now on where it ran before.
 abbrev pub tmr_start : Content → Request → Kernel → Effect
-tmr_start (Timed t) r k = done (runs (argument r 0) t (start_delay t) k) (fine 0)
+tmr_start (Timed t) r k = let timer = argument r 0 in done (runs timer t (start_delay t) k) (fine 0)
 tmr_start content r k = refused k ObjectType
 
 -- OSTmrStop: a running timer stops.
@@ -34,7 +34,7 @@ tmr_stop_in state t o k = refused k TimerStopped
 
 -- OSTmrStop on what an object holds
 abbrev pub tmr_stop : Content → Request → Kernel → Effect
-tmr_stop (Timed t) r k = tmr_stop_in t.state t (argument r 0) k
+tmr_stop (Timed t) r k = let timer = argument r 0 in tmr_stop_in t.state t timer k
 tmr_stop content r k = refused k ObjectType
 
 -- the match of a timer that has one
@@ -50,7 +50,7 @@ remains Completed t o k = 0
 
 -- OSTmrRemainGet on what an object holds
 abbrev pub tmr_remain_get : Content → Request → Kernel → Effect
-tmr_remain_get (Timed t) r k = done k (fine (remains t.state t (argument r 0) k))
+tmr_remain_get (Timed t) r k = let timer = argument r 0 in done k (fine (remains t.state t timer k))
 tmr_remain_get content r k = refused k ObjectType
 
 -- OSTmrStateGet: the timer's state as a number.
@@ -67,9 +67,9 @@ tmr_state_get content k = refused k ObjectType
 -- OSTmrDel: the timer stops, and is deleted.
 abbrev pub tmr_del : Content → Request → Kernel → Effect
 tmr_del (Timed t) r k =
-    let o = argument r 0 in
-    let j = rests o t Stopped k in
-    done (record j { objects = update_object j.objects o (λ b. record b { deleted = true }) }) (fine 0)
+    let timer = argument r 0 in
+    let j = rests timer t Stopped k in
+    done (record j { objects = update_object j.objects timer (λ b. record b { deleted = true }) }) (fine 0)
 tmr_del content r k = refused k ObjectType
 
 -- the first of the running timers whose match is the timer count

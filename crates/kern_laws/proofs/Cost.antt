@@ -1,0 +1,2 @@
+-- Calls without a renewal of priorities.
+pub mod Quick

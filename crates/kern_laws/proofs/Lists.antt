@@ -1,0 +1,2 @@
+-- Lists that rise in priority number.
+pub mod Rising

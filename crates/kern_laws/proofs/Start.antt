@@ -1,0 +1,3 @@
+-- The kernel at the start.
+pub mod Linked
+pub mod Valid

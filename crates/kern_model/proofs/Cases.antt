@@ -1,0 +1,3 @@
+-- Small cases, computed.
+pub mod Small
+pub mod Services

@@ -1,0 +1,3 @@
+-- Priority inheritance.
+pub mod Renewed
+pub mod Reached

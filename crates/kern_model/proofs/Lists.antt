@@ -1,0 +1,3 @@
+-- Who stands in lists.
+pub mod Counts
+pub mod Members

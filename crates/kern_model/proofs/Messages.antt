@@ -1,0 +1,3 @@
+-- No message is lost or made.
+pub mod Services
+pub mod Calls

@@ -1,0 +1,2 @@
+-- What every post leaves as it was.
+pub mod Kept
