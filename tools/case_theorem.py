@@ -9,10 +9,11 @@ Each line of LIST is a theorem, of these words with one blank between them:
     NAME IMAGE INJECTIONS LINES run deferred N
     NAME IMAGE INJECTIONS LINES both N
 
-A line that begins with `#` is a comment on the theorem behind it. NAME is the theorem's name. IMAGE is a file with a binary image of version 2 (`ucos3 image` writes one), INJECTIONS a file
-with lines as they stand behind `.inject`, without a fault, and LINES a file with the lines that the command writes. FILE.antt
-goes into the proofs/ of machine_model, or of a crate that stands on it; where the lines are others, the check refuses the
-theorem. Runs of up to some thousand raw steps are cheap. The gate does not run this.
+A line that begins with `#` is a comment on the theorem behind it. NAME is the theorem's name. IMAGE is a file with a binary image
+of version 2 (`ucos3 image` writes one), INJECTIONS a file with lines as they stand behind `.inject`, without a fault, and LINES a
+file with the lines that the command writes. FILE.antt goes into the proofs/ of machine_model, or of a crate that stands on it;
+where the lines are others, the check refuses the theorem. Runs of up to some thousand raw steps are cheap. The gate does not run
+this.
 """
 import re
 import struct
@@ -168,6 +169,8 @@ def definitions(at: int, image: Image, injections: str) -> str:
 
 
 def main() -> None:
+    if len(sys.argv) != 2:
+        sys.exit("usage: python3 tools/case_theorem.py LIST > FILE.antt")
     listed = Path(sys.argv[1])
     parts: List[str] = [HEADER]
     cases: Dict[Tuple[str, str], int] = {}

@@ -8,12 +8,10 @@ use Rattle.kern_base.specs.declared.requests.Request.{Request}
 use Rattle.kern_model.specs.State.{Kernel, task_at, prio_of, is_ready, first_of, timer_task, tick_task}
 use Rattle.kern_model.specs.Finish.{finished}
 use Rattle.kern_model.specs.Stop.{stopped, callback_ended}
-use Rattle.kern_model.specs.Valid.{IsValid, MayCall, has_result}
-use Rattle.kern_model.proofs.ChangeLaws.{valid-finished, valid-stopped}
-use Rattle.kern_model.proofs.ValidTasks.{valid-callback_ended}
-use Rattle.kern_model.proofs.Tests.{choice_by, equal, unequal, and_first, and_second, or_either, or_first, or_second, not_true, not_false}
+use Rattle.kern_model.specs.Valid.{IsLinked, MayCall, has_result}
+use Rattle.kern_model.proofs.Lemmas.{linked-finished, linked-stopped, linked-callback_ended, choice_by, equal, unequal, and_first, and_second, or_either, or_first, or_second, not_true, not_false}
 use Rattle.rv32_exec.specs.Registers.{Registers}
-use Rattle.tcb_pool.specs.declared.tables.TheConstants.{LEAVE}
+use Rattle.kern_base.specs.Numbers.{leave}
 use Rattle.machine_model.specs.Machine.{Machine, CallOf, UnitOf}
 use Rattle.machine_model.specs.Settling.{settled}
 use Rattle.machine_model.specs.Steps.{begins}
@@ -44,7 +42,7 @@ in_callback x k e same =
     let here : ((61 == timer_task) && not k.in_callback) ≡ false = rw same at second in
     not_false k.in_callback here
 
-runner : (x : ℕ) (k : Kernel) → IsValid k → is_ready (task_at k x) ≡ true → x ≢ 62 → works_in_units x k ≡ false → IsRunner x k
+runner : (x : ℕ) (k : Kernel) → IsLinked k → is_ready (task_at k x) ≡ true → x ≢ 62 → works_in_units x k ≡ false → IsRunner x k
 runner x k v ready idle e = by (x == 61) refl
   where
     by : (b : Bool) → (x == 61) ≡ b → IsRunner x k
@@ -64,12 +62,12 @@ may_call x k a none (inl l) = inl (l, a.ready, none, not_processing x k a l)
 may_call x k a none (inr h) = inr h
 
 -- a unit begins where no callback runs
-no_callback : (x : ℕ) (k : Kernel) → IsValid k → IsActing x k → (x ≡ 60) ⊎ ((x ≡ 61) × (k.in_callback ≡ false)) → k.in_callback ≡ false
+no_callback : (x : ℕ) (k : Kernel) → IsLinked k → IsActing x k → (x ≡ 60) ⊎ ((x ≡ 61) × (k.in_callback ≡ false)) → k.in_callback ≡ false
 no_callback x k v a (inr h) = h.1
 no_callback x k v a (inl e) = by k.in_callback refl
   where
     by : (b : Bool) → k.in_callback ≡ b → b ≡ false
-    by true c = absurd (elim a.timer [ inl p ↦ true≢false (sym (v.callback c) ∙ p) | inr s ↦ omega (arith, e, s) ])
+    by true c = absurd (elim a.timer [ inl p ↦ true≢false (sym (v.lock.callback c) ∙ p) | inr s ↦ omega (arith, e, s) ])
     by false c = refl
 
 unit_lock : (x : ℕ) (k : Kernel) → IsActing x k → 60 ≤ x → (k.lock ≡ 0) ⊎ ((x ≡ 61) × (k.processing ≡ true))
@@ -98,7 +96,7 @@ module _ (served : Service → Bool) (method : Method) (m : Machine) (v : V serv
       let k = m.kernel in
       let c = calm-finished x k in
       record {
-        kernel = valid-finished x k v.kernel;
+        kernel = linked-finished x k v.kernel;
         registers = e ∙ v.registers;
         frames = v.frames;
         interrupts = v.interrupts;
@@ -152,7 +150,7 @@ module _ (served : Service → Bool) (method : Method) (m : Machine) (v : V serv
   callback-rest : (current : ℕ) → current ≡ 61 → m.kernel.in_callback ≡ true → IsAtRest method (callback_ended m.kernel) current m.later m.frames
   callback-rest current e c =
       record {
-        locked = λ _. inr (e, v.kernel.callback c);
+        locked = λ _. inr (e, v.kernel.lock.callback c);
         ready = λ (l : 1 ≡ 0). absurd (omega (arith, l));
         picked = λ (l : 1 ≡ 0). absurd (omega (arith, l));
       }
@@ -164,14 +162,14 @@ module _ (served : Service → Bool) (method : Method) (m : Machine) (v : V serv
   in_its_callback (inl l) e = absurd (omega (arith, l, e))
   in_its_callback (inr h) e = h.1
 
-  valid-runs : Instructs m.current m → (pc : ℕ) (registers : List Registers) (memory : List ℕ) → length registers ≡ length m.registers → V served method (record m { kernel = after_instruction m.current pc m.kernel; registers = registers; memory = memory; t = m.t + 1 })
-  valid-runs i pc registers memory e =
+  linked-runs : Instructs m.current m → (pc : ℕ) (registers : List Registers) (memory : List ℕ) → length registers ≡ length m.registers → V served method (record m { kernel = after_instruction m.current pc m.kernel; registers = registers; memory = memory; t = m.t + 1 })
+  linked-runs i pc registers memory e =
       let P : Kernel → Type 0 = λ j. V served method (record m { kernel = j; registers = registers; memory = memory; t = m.t + 1 }) in
-      choice_by P ((m.current == timer_task) && (pc == LEAVE)) (callback_ended m.kernel) m.kernel
+      choice_by P ((m.current == timer_task) && (pc == leave)) (callback_ended m.kernel) m.kernel
       (λ t.
-      let same = equal m.current 61 (and_first (m.current == timer_task) (pc == LEAVE) t) in
+      let same = equal m.current 61 (and_first (m.current == timer_task) (pc == leave) t) in
       record {
-        kernel = valid-callback_ended m.kernel v.kernel;
+        kernel = linked-callback_ended m.kernel v.kernel;
         registers = e ∙ v.registers;
         frames = v.frames;
         interrupts = v.interrupts;
@@ -196,8 +194,8 @@ module _ (served : Service → Bool) (method : Method) (m : Machine) (v : V serv
         };
       }
 
-  stopped-valid : IsRunner m.current m.kernel → m.current ≢ 61 → IsValid (stopped m.current m.kernel)
-  stopped-valid (inl l) d = valid-stopped m.current m.kernel v.kernel l act.ready (not_processing m.current m.kernel act l)
+  stopped-valid : IsRunner m.current m.kernel → m.current ≢ 61 → IsLinked (stopped m.current m.kernel)
+  stopped-valid (inl l) d = linked-stopped m.current m.kernel v.kernel l act.ready (not_processing m.current m.kernel act l)
   stopped-valid (inr h) d = absurd (d h.0)
 
   valid-traps : Instructs m.current m → (memory : List ℕ) → V served method (settled (record m { kernel = trapped m.current m.kernel; memory = memory; t = m.t + 1 }))
@@ -206,7 +204,7 @@ module _ (served : Service → Bool) (method : Method) (m : Machine) (v : V serv
       choice_by P (m.current == timer_task) (callback_ended m.kernel) (stopped m.current m.kernel)
       (λ t.
       let same = equal m.current 61 t in
-      let valid = valid-callback_ended m.kernel v.kernel in
+      let valid = linked-callback_ended m.kernel v.kernel in
       record {
         kernel = valid;
         registers = v.registers;
@@ -235,7 +233,7 @@ module _ (served : Service → Bool) (method : Method) (m : Machine) (v : V serv
         finishes = valid-finishes;
         idles = λ _. valid-same m.registers m.memory refl;
         works = λ _ u. valid-works u;
-        runs = valid-runs;
+        runs = linked-runs;
         calls = valid-calls;
         traps = valid-traps;
       })

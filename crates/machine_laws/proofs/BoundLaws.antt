@@ -1,17 +1,16 @@
 -- The counts of a run, event by event.
-use Rattle.std.specs.Prelude.{◌==◌, ◌&&◌, length}
-use Rattle.std.proofs.Common.{◌≡◌, ◌<◌, ◌≤◌, ℕ, zero, suc, ◌+◌, ◌-◌, ◌*◌, Bool, true, false, cond, List, [], ◌∷◌, Option, Some, None, refl, arith}
+use Rattle.std.specs.Prelude.{◌==◌, ◌&&◌, length, map}
+use Rattle.std.proofs.Common.{◌≡◌, ◌<◌, ◌≤◌, ℕ, zero, suc, ◌+◌, ◌-◌, ◌*◌, Bool, true, false, cond, List, [], ◌∷◌, Option, Some, None, refl, ap, arith}
 use Rattle.std.specs.List.{count_by}
 use Rattle.std.proofs.lemmas.List.{length-map}
 use Rattle.std.proofs.lemmas.List.Sums.{sum_by-cons}
 use Rattle.kern_base.specs.declared.kinds.Method.{Method}
 use Rattle.kern_base.specs.declared.services.Service.{Service}
 use Rattle.kern_model.specs.State.{Kernel, task_at}
-use Rattle.kern_model.proofs.LeadLaws.{choice}
-use Rattle.kern_model.proofs.Tests.{unequal}
+use Rattle.kern_model.proofs.Lemmas.{choice, unequal}
 use Rattle.app_image.specs.Image.{ImageRecord, IsValidImage}
 use Rattle.inject_list.specs.Lists.{ListRecord, IsValidList}
-use Rattle.isr_nesting.specs.Frames.{FrameRecord, none_stands, interrupt_of}
+use Rattle.machine_model.specs.Frames.{FrameRecord, none_stands, interrupt_of}
 use Rattle.machine_model.specs.Machine.{Machine, WholeStep, Work, CallOf, UnitOf, TakeOf, start}
 use Rattle.machine_model.specs.Settling.{settled, is_free}
 use Rattle.machine_model.specs.Bound.{events_left, steps_taken, most_micro_steps, whole_step_events}
@@ -19,17 +18,18 @@ use Rattle.machine_model.specs.Interrupts.{without_top, frame_runs}
 use Rattle.machine_model.specs.Steps.{advances}
 use Rattle.machine_model.specs.Acts.{acts}
 use Rattle.machine_model.specs.Rules.{Rule, Begins, Looks, Enters, FrameLimit, FrameRuns, MicroStep, TakeBegins, TaskActs, rule, raw, done, next}
-use Rattle.machine_model.specs.Run.{Run, run_on, run}
+use Rattle.machine_model.specs.Run.{Run, machines_on, run_on, run}
 use Rattle.machine_laws.specs.RuleTable.{Applies}
 use Rattle.app_image.specs.Layout.{HasWords}
 use Rattle.machine_laws.specs.Valid.{IsBegun}
-use Rattle.machine_laws.specs.StepBound.{rules_on, rules_of, is_take, is_instruction, is_entry, IsBounded}
+use Rattle.machine_laws.specs.StepBound.{rules_of, is_take, is_instruction, is_entry, IsBounded}
 use Rattle.machine_laws.proofs.RuleFacts.{applies}
 use Rattle.machine_laws.proofs.DueLaws.{length-taken_at, due-is}
 use Rattle.machine_laws.proofs.StepCases.{after-frame, EndsIn, after-advances, after-acts}
 use Rattle.machine_laws.proofs.RestLaws.{V, hand-of}
 use Rattle.machine_laws.proofs.FallLaws.{cost-in_hand, length-front, length-posting}
-use Rattle.machine_laws.proofs.RunEnds.{OnItsWay, on_its_way-next, on_its_way-start, run_on-more, run_on-end, run-ends, chosen_true, chosen_false}
+use Rattle.machine_laws.proofs.RunEnds.{OnItsWay, on_its_way-next, on_its_way-start, run_on-more, run_on-end, run-ends}
+use Rattle.machine_laws.proofs.MachinesOf.{machines_on-end, machines_on-more}
 
 -- 1 where a test holds
 abbrev one : Bool → ℕ
@@ -105,7 +105,7 @@ module _ (served : Service → Bool) (method : Method) (m : Machine) (v : V serv
       (record {
         left = counts-left below m 1 1 refl (omega (arith, all, lt));
         ran = λ g memory used level. record { raw = omega arith; frames = omega (arith, all, lt, used); list = omega arith; queue = omega arith; config = refl };
-        posted = λ g s args used level post.
+        posted = λ g s args words used level post.
             let more = length-posting served method s args m in
             record { raw = omega arith; frames = omega (arith, all, lt, used); list = omega arith; queue = omega (arith, more); config = refl };
       })
@@ -202,39 +202,30 @@ sums-none : (m : Machine) (r : Run) (rules : List Rule) → r ≡ record { event
 sums-none m r rules e f = rw (e, f) (record { raw = omega arith; frames = omega arith; list = omega arith; queue = omega arith })
 
 module _ (served : Service → Bool) (method : Method) (n : ℕ) where
-  rules_on-end : (more : ℕ) (m : Machine) → (m.t == n) ≡ true → rules_on served method n more m ≡ []
-  rules_on-end zero m e = refl
-  rules_on-end (suc more) m e = chosen_true (m.t == n) [] (rule method m ∷ rules_on served method n more (next served method m).1) e
+  abbrev rules_on : ℕ → Machine → List Rule
+  rules_on more m = map (rule method) (machines_on served method n more m)
 
-  rules_on-more : (more : ℕ) (m : Machine) → (m.t == n) ≡ false → rules_on served method n (suc more) m ≡ rule method m ∷ rules_on served method n more (next served method m).1
-  rules_on-more more m e = chosen_false (m.t == n) [] (rule method m ∷ rules_on served method n more (next served method m).1) e
+  rules_on-end : (more : ℕ) (m : Machine) → (m.t == n) ≡ true → rules_on more m ≡ []
+  rules_on-end more m e = ap (map (rule method)) (machines_on-end served method n more m e)
 
-  sums-one_more : (more : ℕ) (m : Machine) (b : Bool) → (m.t == n) ≡ b → OnItsWay served method n m → (OnItsWay served method n (next served method m).1 → SumsOf (next served method m).1 (run_on served method n more (next served method m).1) (rules_on served method n more (next served method m).1)) → SumsOf m (run_on served method n (suc more) m) (rules_on served method n (suc more) m)
-  sums-one_more more m true e h rest = sums-none m (run_on served method n (suc more) m) (rules_on served method n (suc more) m) (run_on-end served method n (suc more) m e) (rules_on-end (suc more) m e)
+  rules_on-more : (more : ℕ) (m : Machine) → (m.t == n) ≡ false → rules_on (suc more) m ≡ rule method m ∷ rules_on more (next served method m).1
+  rules_on-more more m e = ap (map (rule method)) (machines_on-more served method n more m e)
+
+  sums-one_more : (more : ℕ) (m : Machine) (b : Bool) → (m.t == n) ≡ b → OnItsWay served method n m → (OnItsWay served method n (next served method m).1 → SumsOf (next served method m).1 (run_on served method n more (next served method m).1) (rules_on more (next served method m).1)) → SumsOf m (run_on served method n (suc more) m) (rules_on (suc more) m)
+  sums-one_more more m true e h rest = sums-none m (run_on served method n (suc more) m) (rules_on (suc more) m) (run_on-end served method n (suc more) m e) (rules_on-end (suc more) m e)
   sums-one_more more m false e h rest =
       let d = unequal m.t n e in
       let l = h.within in
       let r = rule method m in
       let later = rest (on_its_way-next served method n m h (omega (arith, d, l))) in
-      let rules = rules_on served method n more (next served method m).1 in
+      let rules = rules_on more (next served method m).1 in
       let both = sums-more m (next served method m).1 (run_on served method n more (next served method m).1).last (raw r) (one (is_take r)) (one (is_instruction r)) (one (is_entry r)) (count_by is_take rules) (count_by is_instruction rules) (count_by is_entry rules) (counts-next served method m h.valid) refl later in
       let whole = sums-same m (run_on served method n more (next served method m).1).last _ _ _ (count_by is_take (r ∷ rules)) (count_by is_instruction (r ∷ rules)) (count_by is_entry (r ∷ rules)) (count-cons is_take r rules) (count-cons is_instruction r rules) (count-cons is_entry r rules) both in
       rw (run_on-more served method n more m e, rules_on-more more m e) whole
 
-  sums-from : (more : ℕ) (m : Machine) → OnItsWay served method n m → SumsOf m (run_on served method n more m) (rules_on served method n more m)
+  sums-from : (more : ℕ) (m : Machine) → OnItsWay served method n m → SumsOf m (run_on served method n more m) (rules_on more m)
   sums-from zero m h = record { raw = omega arith; frames = omega arith; list = omega arith; queue = omega arith }
   sums-from (suc more) m h = sums-one_more more m (m.t == n) refl h (λ g. sums-from more (next served method m).1 g)
-
-  rules-one_more : (more : ℕ) (m : Machine) (b : Bool) → (m.t == n) ≡ b → length (rules_on served method n more (next served method m).1) ≡ length (run_on served method n more (next served method m).1).events → length (rules_on served method n (suc more) m) ≡ length (run_on served method n (suc more) m).events
-  rules-one_more more m true e rest = rw (rules_on-end (suc more) m e, run_on-end served method n (suc more) m e) refl
-  rules-one_more more m false e rest = rw (rules_on-more more m e, run_on-more served method n more m e) (omega (arith, rest))
-
-  rules-events : (more : ℕ) (m : Machine) → length (rules_on served method n more m) ≡ length (run_on served method n more m).events
-  rules-events zero m = refl
-  rules-events (suc more) m = rules-one_more more m (m.t == n) refl (rules-events more (next served method m).1)
-
-pub rules-run : (served : Service → Bool) (method : Method) (image : ImageRecord) (list : ListRecord) (n : ℕ) → length (rules_of served method image list n) ≡ length (run served method image list n).events
-rules-run served method image list n = let m = start image list in rules-events served method n (events_left n m) m
 
 pub bounded-run : (served : Service → Bool) (method : Method) (image : ImageRecord) (list : ListRecord) (n : ℕ) → IsValidImage image → HasWords image → IsValidList image list → let rules = rules_of served method image list n in IsBounded (run served method image list n).last.s n (count_by is_take rules) (count_by is_instruction rules) (count_by is_entry rules) image.config.isr_limit (length list.injections)
 bounded-run served method image list n h words l =

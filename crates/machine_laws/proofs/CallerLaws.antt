@@ -16,7 +16,8 @@ use Rattle.kern_base.specs.declared.outcomes.Waiting.{Waiting}
 use Rattle.kern_base.specs.declared.outcomes.Waiting.TheVariants.{Obj, Delay}
 use Rattle.kern_model.specs.State.{Kernel, Task, Content, Count, Messages, Bits, Held, Timed, Timer, TimerState, Running, Completed, list_at, task_at, object_at, no_task, prio_of, update_task, with_task, with_content, is_ready, tick_task, timer_task}
 use Rattle.kern_model.specs.Micro.{at_head, at_tail}
-use Rattle.kern_model.specs.Effect.{Effect, Wait, refused, done, answer, answers, fine, wakes_all, chosen, result_of, tail, blocks_on, waits_for}
+use Rattle.kern_model.specs.Call.{Call, call_of}
+use Rattle.kern_model.specs.Effect.{Effect, Wait, refused, done, answer, answers, fine, wakes_all, chosen, result_of, waits_unless, blocks_on, waits_for}
 use Rattle.kern_model.specs.Checks.{argument, named_task, call_error}
 use Rattle.kern_model.specs.FlagBits.{has_bit, ready_bits}
 use Rattle.kern_model.specs.Semaphores.{sem_pend}
@@ -32,10 +33,8 @@ use Rattle.kern_model.specs.Timers.{runs, rests, tmr_start, tmr_stop, tmr_stop_i
 use Rattle.kern_model.specs.RoundRobin.{is_alone, rotates, round_robin_yield}
 use Rattle.kern_model.specs.Inherit.{renewed, renewing}
 use Rattle.kern_model.specs.Finish.{finished, finished_with}
-use Rattle.kern_model.specs.Services.{effect, after_checks, row_of, content_for}
-use Rattle.kern_model.proofs.LeadLaws.{choice}
-use Rattle.kern_model.proofs.Tests.{choice_by, equal, unequal, not_less}
-use Rattle.kern_model.proofs.Laws.{task-other}
+use Rattle.kern_model.specs.Services.{effect, after_checks, perform, content_for}
+use Rattle.kern_model.proofs.Lemmas.{choice, choice_by, equal, unequal, not_less, task-other}
 use Rattle.machine_laws.proofs.ReadyLaws.{IsCalm, calm-refl, calm-trans, calm-same, calm-updated, calm-with_task, calm-wakes_all, calm-renewed, calm-sem_post, calm-q_post, calm-flag_post, calm-task_sem_post_to, calm-task_q_post_to, calm-time_tick, calm-rotates, CalmBy}
 
 -- the caller x is ready still, or the scheduler is not locked; and the timer task's processing stays
@@ -70,11 +69,11 @@ stays-renewing place x k e h = then_calm x k e.kernel (renewed place e.kernel) h
 blocked-stays : (k : Kernel) (x : ℕ) (w : Wait) → k.lock ≡ 0 → StaysBy x k (blocks_on k x w)
 blocked-stays k x w e = record { processing = refl; ready = inl e }
 
-stays-tail : (k : Kernel) (x : ℕ) (b : Bool) (e : Effect) → (k.lock ≡ 0 → StaysBy x k e) → StaysBy x k (tail k b e)
+stays-tail : (k : Kernel) (x : ℕ) (b : Bool) (e : Effect) → (k.lock ≡ 0 → StaysBy x k e) → StaysBy x k (waits_unless k b e)
 stays-tail k x true e h = stays x k
 stays-tail k x false e h = choice_by (StaysBy x k) (k.lock == 0) e (refused k SchedLocked) (λ t. h (equal k.lock 0 t)) (λ t. stays x k)
 
-stays-blocks : (k : Kernel) (x : ℕ) (b : Bool) (w : Wait) → StaysBy x k (tail k b (blocks_on k x w))
+stays-blocks : (k : Kernel) (x : ℕ) (b : Bool) (w : Wait) → StaysBy x k (waits_unless k b (blocks_on k x w))
 stays-blocks k x b w = stays-tail k x b (blocks_on k x w) (blocked-stays k x w)
 
 stays-woken : (x : ℕ) (k : Kernel) (f : Task → Finished) (h : ℕ) (xs : List ℕ) → CallerStays x k (wakes_all f h xs k)
@@ -114,7 +113,7 @@ stays-mutex_pend : (c : Content) (r : Request) (x : ℕ) (k : Kernel) → StaysB
 stays-mutex_pend (Held None nesting) r x k = same x k (with_content k (argument r 0) (Held (Some x) 1)) refl refl
 stays-mutex_pend (Held (Some v) nesting) r x k =
     let e = blocks_on k x (waits_for (Obj MutexPend) (argument r 0 ∷ []) (argument r 1)) in
-    choice (StaysBy x k) (v == x) (nests (argument r 0) x nesting k) (tail k (argument r 2 == 1) (renewing at_head e)) (stays-nests (argument r 0) x nesting k)
+    choice (StaysBy x k) (v == x) (nests (argument r 0) x nesting k) (waits_unless k (argument r 2 == 1) (renewing at_head e)) (stays-nests (argument r 0) x nesting k)
     (stays-tail k x (argument r 2 == 1) (renewing at_head e) (λ l. stays-renewing at_head x k e (blocked-stays k x _ l)))
 stays-mutex_pend (Count n) r x k = stays x k
 stays-mutex_pend (Messages limit ms) r x k = stays x k
@@ -325,55 +324,55 @@ stays-tmr_del _ r x k = stays x k
 
 -- every service
 
-stays-row_of : (s : Service) (r : Request) (x c h : ℕ) (k : Kernel) → StaysBy x k (row_of s r x c h k)
-stays-row_of SemPost r x c h k = calm x k _ (calm-sem_post (content_for r k) r h k)
-stays-row_of QPost r x c h k = calm x k _ (calm-q_post (content_for r k) r h k)
-stays-row_of FlagPost r x c h k = calm x k _ (calm-flag_post (content_for r k) r h k)
-stays-row_of TaskSemPost r x c h k = let y = named_task r x in calm x k _ (calm-task_sem_post_to (task_at k y).waiting y h k)
-stays-row_of TaskQPost r x c h k = let y = named_task r x in calm x k _ (calm-task_q_post_to (task_at k y).waiting r y h k)
-stays-row_of TimeTick r x c h k = calm x k _ (calm-time_tick c h k)
-stays-row_of SemPend r x c h k = stays-sem_pend (content_for r k) r x k
-stays-row_of QPend r x c h k = stays-q_pend (content_for r k) r x k
-stays-row_of FlagPend r x c h k = stays-flag_pend (content_for r k) r x k
-stays-row_of MutexPend r x c h k = stays-mutex_pend (content_for r k) r x k
-stays-row_of TaskSemPend r x c h k = stays-task_sem_pend_on (task_at k x).count r x k
-stays-row_of TaskQPend r x c h k = stays-task_q_pend_on (task_at k x).messages r x k
-stays-row_of PendMulti r x c h k = stays-multi_checked (multi_error r k) r x k
-stays-row_of MutexPost r x c h k = stays-mutex_post (content_for r k) r x h k
-stays-row_of SemPendAbort r x c h k = stays-aborts x (chosen (argument r 1 == 1) (list_at k.pend (argument r 0))) h k
-stays-row_of QPendAbort r x c h k = stays-aborts x (chosen (argument r 1 == 1) (list_at k.pend (argument r 0))) h k
-stays-row_of FlagPendAbort r x c h k = stays-aborts x (chosen (argument r 1 == 1) (list_at k.pend (argument r 0))) h k
-stays-row_of MutexPendAbort r x c h k = stays-mutex_aborts x (chosen (argument r 1 == 1) (list_at k.pend (argument r 0))) h k
-stays-row_of TaskSemPendAbort r x c h k = stays-task_abort waits_for_semaphore r x h k
-stays-row_of TaskQPendAbort r x c h k = stays-task_abort waits_for_queue r x h k
-stays-row_of SemDel r x c h k = stays-deletes x (argument r 1 == 1) (list_at k.pend (argument r 0)) (argument r 0) h k
-stays-row_of QDel r x c h k = stays-deletes x (argument r 1 == 1) (list_at k.pend (argument r 0)) (argument r 0) h k
-stays-row_of FlagDel r x c h k = stays-deletes x (argument r 1 == 1) (list_at k.pend (argument r 0)) (argument r 0) h k
-stays-row_of MutexDel r x c h k = stays-mutex_deletes x (argument r 1 == 1) (list_at k.pend (argument r 0)) (argument r 0) h k
-stays-row_of TimeDly r x c h k = stays-time_dly r x k
-stays-row_of TimeDlyResume r x c h k = let y = named_task r x in stays-resumes_delayed (task_at k y).waiting x y h k
-stays-row_of TimeGet r x c h k = stays x k
-stays-row_of TaskSuspend r x c h k = stays-task_suspend r x k
-stays-row_of TaskResume r x c h k = stays-task_resume r x h k
-stays-row_of TaskDel r x c h k = stays-task_del r x k
-stays-row_of RoundRobinYield r x c h k = stays-round_robin_yield x k
-stays-row_of SchedLock r x c h k = stays-sched_lock x k
-stays-row_of SchedUnlock r x c h k = stays-sched_unlock x k
-stays-row_of TmrStart r x c h k = stays-tmr_start (content_for r k) r x k
-stays-row_of TmrStop r x c h k = stays-tmr_stop (content_for r k) r x k
-stays-row_of TmrRemainGet r x c h k = stays-tmr_remain_get (content_for r k) r x k
-stays-row_of TmrStateGet r x c h k = stays-tmr_state_get (content_for r k) x k
-stays-row_of TmrDel r x c h k = stays-tmr_del (content_for r k) r x k
-stays-row_of TaskChangePrio r x c h k = stays-task_change_prio r x k
-stays-row_of (Unknown number) r x c h k = stays x k
+stays-perform : (s : Service) (call : Call) (k : Kernel) → StaysBy call.caller k (perform s call k)
+stays-perform SemPost call k = calm call.caller k _ (calm-sem_post (content_for call.request k) call.request call.compared k)
+stays-perform QPost call k = calm call.caller k _ (calm-q_post (content_for call.request k) call.request call.compared k)
+stays-perform FlagPost call k = calm call.caller k _ (calm-flag_post (content_for call.request k) call.request call.compared k)
+stays-perform TaskSemPost call k = let y = named_task call.request call.caller in calm call.caller k _ (calm-task_sem_post_to (task_at k y).waiting y call.compared k)
+stays-perform TaskQPost call k = let y = named_task call.request call.caller in calm call.caller k _ (calm-task_q_post_to (task_at k y).waiting call.request y call.compared k)
+stays-perform TimeTick call k = calm call.caller k _ (calm-time_tick call.interrupted call.compared k)
+stays-perform SemPend call k = stays-sem_pend (content_for call.request k) call.request call.caller k
+stays-perform QPend call k = stays-q_pend (content_for call.request k) call.request call.caller k
+stays-perform FlagPend call k = stays-flag_pend (content_for call.request k) call.request call.caller k
+stays-perform MutexPend call k = stays-mutex_pend (content_for call.request k) call.request call.caller k
+stays-perform TaskSemPend call k = stays-task_sem_pend_on (task_at k call.caller).count call.request call.caller k
+stays-perform TaskQPend call k = stays-task_q_pend_on (task_at k call.caller).messages call.request call.caller k
+stays-perform PendMulti call k = stays-multi_checked (multi_error call.request k) call.request call.caller k
+stays-perform MutexPost call k = stays-mutex_post (content_for call.request k) call.request call.caller call.compared k
+stays-perform SemPendAbort call k = stays-aborts call.caller (chosen (argument call.request 1 == 1) (list_at k.pend (argument call.request 0))) call.compared k
+stays-perform QPendAbort call k = stays-aborts call.caller (chosen (argument call.request 1 == 1) (list_at k.pend (argument call.request 0))) call.compared k
+stays-perform FlagPendAbort call k = stays-aborts call.caller (chosen (argument call.request 1 == 1) (list_at k.pend (argument call.request 0))) call.compared k
+stays-perform MutexPendAbort call k = stays-mutex_aborts call.caller (chosen (argument call.request 1 == 1) (list_at k.pend (argument call.request 0))) call.compared k
+stays-perform TaskSemPendAbort call k = stays-task_abort waits_for_semaphore call.request call.caller call.compared k
+stays-perform TaskQPendAbort call k = stays-task_abort waits_for_queue call.request call.caller call.compared k
+stays-perform SemDel call k = stays-deletes call.caller (argument call.request 1 == 1) (list_at k.pend (argument call.request 0)) (argument call.request 0) call.compared k
+stays-perform QDel call k = stays-deletes call.caller (argument call.request 1 == 1) (list_at k.pend (argument call.request 0)) (argument call.request 0) call.compared k
+stays-perform FlagDel call k = stays-deletes call.caller (argument call.request 1 == 1) (list_at k.pend (argument call.request 0)) (argument call.request 0) call.compared k
+stays-perform MutexDel call k = stays-mutex_deletes call.caller (argument call.request 1 == 1) (list_at k.pend (argument call.request 0)) (argument call.request 0) call.compared k
+stays-perform TimeDly call k = stays-time_dly call.request call.caller k
+stays-perform TimeDlyResume call k = let y = named_task call.request call.caller in stays-resumes_delayed (task_at k y).waiting call.caller y call.compared k
+stays-perform TimeGet call k = stays call.caller k
+stays-perform TaskSuspend call k = stays-task_suspend call.request call.caller k
+stays-perform TaskResume call k = stays-task_resume call.request call.caller call.compared k
+stays-perform TaskDel call k = stays-task_del call.request call.caller k
+stays-perform RoundRobinYield call k = stays-round_robin_yield call.caller k
+stays-perform SchedLock call k = stays-sched_lock call.caller k
+stays-perform SchedUnlock call k = stays-sched_unlock call.caller k
+stays-perform TmrStart call k = stays-tmr_start (content_for call.request k) call.request call.caller k
+stays-perform TmrStop call k = stays-tmr_stop (content_for call.request k) call.request call.caller k
+stays-perform TmrRemainGet call k = stays-tmr_remain_get (content_for call.request k) call.request call.caller k
+stays-perform TmrStateGet call k = stays-tmr_state_get (content_for call.request k) call.caller k
+stays-perform TmrDel call k = stays-tmr_del (content_for call.request k) call.request call.caller k
+stays-perform TaskChangePrio call k = stays-task_change_prio call.request call.caller k
+stays-perform (Unknown number) call k = stays call.caller k
 
-stays-after_checks : (o : Option OsErr) (r : Request) (x c h : ℕ) (k : Kernel) → StaysBy x k (after_checks o r x c h k)
-stays-after_checks (Some err) r x c h k = stays x k
-stays-after_checks None r x c h k = stays-row_of r.service r x c h k
+stays-after_checks : (o : Option OsErr) (call : Call) (k : Kernel) → StaysBy call.caller k (after_checks o call k)
+stays-after_checks (Some err) call k = stays call.caller k
+stays-after_checks None call k = stays-perform call.request.service call k
 
-pub caller-stays : (served : Service → Bool) (r : Request) (x c h : ℕ) (k : Kernel) → CallerStays x k (effect served r x c h k).kernel
-caller-stays served r x c h k =
-    choice (StaysBy x k) (served r.service) (after_checks (call_error r x k) r x c h k) (refused k CallUnknown) (stays-after_checks (call_error r x k) r x c h k) (stays x k)
+pub caller-stays : (served : Service → Bool) (call : Call) (k : Kernel) → CallerStays call.caller k (effect served call k).kernel
+caller-stays served call k =
+    choice (StaysBy call.caller k) (served call.request.service) (after_checks (call_error call.request call.caller k) call k) (refused k CallUnknown) (stays-after_checks (call_error call.request call.caller k) call k) (stays call.caller k)
 
 -- the units
 

@@ -4,13 +4,12 @@ use Rattle.std.proofs.lemmas.Bool.{false≢true}
 use Rattle.std.proofs.lemmas.List.Elements.{All-nil, All-cons, All-head, All-tail, All-weaker, Contains-append_right, Contains-get_or}
 use Rattle.std.specs.List.{Contains}
 use Rattle.std.proofs.Common.{◌≡◌, ◌⊎◌, inl, inr, ◌<◌, ◌≤◌, ℕ, zero, suc, ◌+◌, Bool, true, false, List, [], ◌∷◌, Some, refl, arith}
-use Rattle.kern_model.proofs.LeadLaws.{choice}
-use Rattle.kern_model.proofs.Tests.{choice_by, less, and_first, and_second, not_true}
+use Rattle.kern_model.proofs.Lemmas.{choice, choice_by, less, and_first, and_second, not_true}
 use Rattle.inject_list.specs.declared.lists.Look.{Look}
 use Rattle.inject_list.specs.declared.lists.Moment.{Moment}
 use Rattle.inject_list.specs.declared.lists.Moment.TheVariants.{Task, Step}
-use Rattle.isr_nesting.specs.Frames.{FrameRecord, Interrupt, level_of, none_stands}
-use Rattle.isr_nesting.specs.Due.{Place, due, due_from, lets_in, highest, highest_from, taken_at, is_step}
+use Rattle.machine_model.specs.Frames.{FrameRecord, Interrupt, level_of, none_stands}
+use Rattle.machine_model.specs.Due.{Place, due, due_from, lets_in, highest, highest_from, taken_at, is_step}
 use Rattle.machine_model.specs.Looks.{look_at, without_look}
 
 -- a look that is printed is gone

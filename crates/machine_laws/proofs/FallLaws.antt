@@ -8,15 +8,15 @@ use Rattle.kern_base.specs.declared.kinds.Method.TheVariants.{Direct, Deferred}
 use Rattle.kern_base.specs.declared.services.Service.{Service}
 use Rattle.kern_base.specs.declared.errors.OsErr.{OsErr}
 use Rattle.kern_base.specs.Checks.{static_error}
+use Rattle.kern_model.specs.Call.{call_of}
 use Rattle.kern_model.specs.State.{Kernel, task_at, kinds_of}
 use Rattle.kern_model.specs.Services.{cost}
-use Rattle.kern_model.specs.Valid.{IsValid}
-use Rattle.kern_model.proofs.LeadLaws.{choice}
-use Rattle.kern_model.proofs.CostEffect.{cost-effect-le, cost-unit-le}
+use Rattle.kern_model.specs.Valid.{IsLinked}
+use Rattle.kern_model.proofs.Lemmas.{choice, cost-effect-le, cost-unit-le}
 use Rattle.app_image.specs.declared.settings.Config.{Config}
-use Rattle.deferred_queue.specs.Queue.{Queued, queued, front, without_front}
-use Rattle.isr_nesting.specs.Frames.{FrameRecord, none_stands}
-use Rattle.isr_nesting.specs.Due.{taken_at}
+use Rattle.machine_model.specs.Queue.{Queued, queued, front, without_front}
+use Rattle.machine_model.specs.Frames.{FrameRecord, none_stands}
+use Rattle.machine_model.specs.Due.{taken_at}
 use Rattle.machine_model.specs.Machine.{Machine, WholeStep, Work, CallOf, UnitOf, TakeOf, effect_of}
 use Rattle.machine_model.specs.Settling.{settled, is_free}
 use Rattle.machine_model.specs.Bound.{events_left, first_event, steps_taken, most_micro_steps, whole_step_events, frame_events, frames_events, interrupt_events}
@@ -34,10 +34,10 @@ use Rattle.machine_laws.proofs.RestLaws.{V, hand-of}
 
 -- The micro-steps of the whole step in hand.
 
-cost-begun : (served : Service → Bool) (config : Config) (w : Work) (k : Kernel) (current : ℕ) (later : List Queued) (size : ℕ) → IsValid k → IsQueue size later → IsBegun w k current later → cost (effect_of served config w k) k ≤ most_micro_steps
-cost-begun served config (CallOf x r p) k current later size v q h = cost-effect-le served r x p p k v (λ _. h.may_call)
+cost-begun : (served : Service → Bool) (config : Config) (w : Work) (k : Kernel) (current : ℕ) (later : List Queued) (size : ℕ) → IsLinked k → IsQueue size later → IsBegun w k current later → cost (effect_of served config w k) k ≤ most_micro_steps
+cost-begun served config (CallOf x r p) k current later size v q h = cost-effect-le served (call_of r x p p) k v (λ _. h.may_call)
 cost-begun served config (UnitOf x) k current later size v q h = cost-unit-le x k v
-cost-begun served config (TakeOf p) k current later size v q h = let post = front-post later p h.first q.posts in cost-effect-le served _ 63 _ _ k v (λ no. absurd (true≢false (sym post ∙ no)))
+cost-begun served config (TakeOf p) k current later size v q h = let post = front-post later p h.first q.posts in cost-effect-le served (call_of _ 63 _ _) k v (λ no. absurd (true≢false (sym post ∙ no)))
 
 module _ (served : Service → Bool) (method : Method) where
   pub cost-in_hand : (m : Machine) (w : WholeStep) → V served method m → m.in_hand ≡ Some w → cost (effect_of served m.config w.work m.kernel) m.kernel ≤ most_micro_steps
@@ -121,7 +121,7 @@ module _ (served : Service → Bool) (method : Method) (c : ℕ) (m : Machine) (
       (record {
         left = fewer-left f below top;
         ran = λ g memory used level. omega (arith, all, taken, short, used, room);
-        posted = λ g s args used level post. let one = length-posting served method s args m in omega (arith, all, taken, short, used, room, one);
+        posted = λ g s args words used level post. let one = length-posting served method s args m in omega (arith, all, taken, short, used, room, one);
       })
 
   fewer-ends : (w : Work) (micro : ℕ) (k : Kernel) → IsBegun w m.kernel m.current m.later → steps_taken m.in_hand ≤ micro → micro ≤ most_micro_steps → EndsIn w k m Fewer

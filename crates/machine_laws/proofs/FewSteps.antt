@@ -4,10 +4,10 @@ use Rattle.std.proofs.Common.{◌≡◌, ◌<◌, ◌≤◌, ℕ, zero, suc, ◌
 use Rattle.std.proofs.lemmas.List.{length-map}
 use Rattle.kern_base.specs.declared.kinds.Method.{Method}
 use Rattle.kern_base.specs.declared.services.Service.{Service}
-use Rattle.kern_model.proofs.Tests.{unequal}
+use Rattle.kern_model.proofs.Lemmas.{unequal}
 use Rattle.app_image.specs.Image.{ImageRecord, IsValidImage}
 use Rattle.inject_list.specs.Lists.{ListRecord, IsValidList, last_moment, most_entries}
-use Rattle.isr_nesting.specs.Frames.{interrupt_of}
+use Rattle.machine_model.specs.Frames.{interrupt_of}
 use Rattle.machine_model.specs.Machine.{Machine, start}
 use Rattle.machine_model.specs.Bound.{events_left, interrupt_events}
 use Rattle.machine_model.specs.Rules.{Rule, Begins, Looks, Enters, FrameLimit, FrameRuns, MicroStep, TakeBegins, TaskActs, rule, raw, next}

@@ -8,16 +8,17 @@ use Rattle.kern_base.specs.declared.kinds.Method.{Method}
 use Rattle.kern_base.specs.declared.kinds.Method.TheVariants.{Direct, Deferred}
 use Rattle.kern_base.specs.declared.services.Service.{Service}
 use Rattle.kern_base.specs.declared.errors.OsErr.{OsErr}
-use Rattle.kern_base.specs.Checks.{is_post, static_error}
+use Rattle.kern_base.specs.Services.{is_post}
+use Rattle.kern_base.specs.Checks.{static_error}
+use Rattle.kern_model.specs.Call.{call_of}
 use Rattle.kern_model.specs.State.{Kernel, prio_of, kinds_of, pick}
-use Rattle.kern_model.specs.Services.{posted}
-use Rattle.kern_model.specs.Valid.{IsValid}
-use Rattle.kern_model.proofs.Tests.{choice_by, less, and_first, and_second, not_false}
-use Rattle.kern_model.proofs.ValidEffect.{valid-effect}
+use Rattle.kern_model.specs.Services.{posted, post_request}
+use Rattle.kern_model.specs.Valid.{IsLinked}
+use Rattle.kern_model.proofs.Lemmas.{choice_by, less, and_first, and_second, not_false, linked-effect}
 use Rattle.app_image.specs.declared.settings.Config.{Config}
-use Rattle.deferred_queue.specs.Queue.{Queued, queued, front}
-use Rattle.isr_nesting.specs.Frames.{FrameRecord, Interrupt, level_of, none_stands, entered}
-use Rattle.isr_nesting.specs.Due.{Place}
+use Rattle.machine_model.specs.Queue.{Queued, queued, front}
+use Rattle.machine_model.specs.Frames.{FrameRecord, Interrupt, level_of, none_stands, entered}
+use Rattle.machine_model.specs.Due.{Place}
 use Rattle.machine_model.specs.Machine.{Machine, WholeStep, Work, CallOf, UnitOf, TakeOf}
 use Rattle.machine_model.specs.Settling.{is_free, settled}
 use Rattle.machine_model.specs.Interrupts.{enters, without_top, frame_runs, posting, checked_post, queues}
@@ -67,12 +68,12 @@ stands-grown served method config None k current later q frames h =
 -- What a post of a frame comes to.
 
 record PostsWell (served : Service → Bool) (o : Method) (m : Machine) (top : List FrameRecord) (k : Kernel) (after : List Queued) : Type 0 where
-  valid : IsValid k
+  valid : IsLinked k
   queue : IsQueue m.config.defer_size after
   direct : o ≡ Direct → after ≡ m.later
   stands : Stands served o m.config m.in_hand k m.current after top
 
-module _ (served : Service → Bool) (m : Machine) (valid : IsValid m.kernel) (queue : IsQueue m.config.defer_size m.later) (g : FrameRecord) (below : List FrameRecord) (s : Service) (args : List ℕ) (post : is_post s ≡ true) where
+module _ (served : Service → Bool) (m : Machine) (valid : IsLinked m.kernel) (queue : IsQueue m.config.defer_size m.later) (g : FrameRecord) (below : List FrameRecord) (s : Service) (args : List ℕ) (post : is_post s ≡ true) where
   -- a post that is refused
   posts-refused : (o : Method) → Stands served o m.config m.in_hand m.kernel m.current m.later m.frames → PostsWell served o m (g ∷ below) m.kernel m.later
   posts-refused o h =
@@ -101,7 +102,7 @@ module _ (served : Service → Bool) (m : Machine) (valid : IsValid m.kernel) (q
       let j = (posted served s args c h k).kernel in
       let calm = calm-posted served s args c h k post in
       record {
-        valid = valid-effect served _ 63 c h k valid (λ no. absurd (true≢false (sym post ∙ no)));
+        valid = linked-effect served (call_of (post_request s args) 63 c h) k valid (λ no. absurd (true≢false (sym post ∙ no)));
         queue = queue;
         direct = λ _. refl;
         stands = rw none (record {
@@ -237,5 +238,5 @@ module _ (served : Service → Bool) (method : Method) (m : Machine) (v : V serv
         (record {
           left = valid-leaves;
           ran = λ g memory used level. valid-ran g memory used level room;
-          posted = λ g s args used level post. valid-posted g s args used level post room;
+          posted = λ g s args words used level post. valid-posted g s args used level post room;
         })

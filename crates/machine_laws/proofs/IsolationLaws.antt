@@ -6,8 +6,8 @@ use Rattle.kern_base.specs.declared.kinds.Method.{Method}
 use Rattle.kern_base.specs.declared.kinds.Method.TheVariants.{Deferred}
 use Rattle.kern_base.specs.declared.numbers.TaskId.{TaskId}
 use Rattle.kern_base.specs.declared.services.Service.{Service}
-use Rattle.kern_base.specs.Services.{service_of}
-use Rattle.kern_base.specs.Checks.{is_post, static_error}
+use Rattle.kern_base.specs.Services.{service_of, is_post, interrupt_error}
+use Rattle.kern_base.specs.Checks.{static_error}
 use Rattle.kern_base.specs.declared.errors.OsErr.{OsErr}
 use Rattle.kern_base.specs.declared.errors.OsErr.TheVariants.{CallUnknown}
 use Rattle.kern_base.specs.declared.outcomes.Finished.{Finished}
@@ -17,16 +17,16 @@ use Rattle.kern_base.specs.declared.outcomes.Outcome.{Outcome}
 use Rattle.kern_base.specs.declared.outcomes.Outcome.TheVariants as outcome
 use Rattle.kern_model.specs.State.{Kernel, task_at, kinds_of, prio_of, idle_task}
 use Rattle.kern_model.specs.Services.{cost}
-use Rattle.kern_model.proofs.LeadLaws.{choice}
+use Rattle.kern_model.proofs.Lemmas.{choice}
 use Rattle.rv32_exec.specs.Registers.{Registers, read}
 use Rattle.rv32_exec.specs.Exec.{Execution, exec}
 use Rattle.rv32_exec.specs.declared.Stepped.{Stepped}
 use Rattle.rv32_exec.specs.declared.Stepped.TheVariants.{Next, Call, Trap, Stored}
 use Rattle.rv32_exec.specs.declared.TrapKind.{TrapKind}
-use Rattle.tcb_pool.specs.declared.tables.TheConstants.{LEAVE}
-use Rattle.deferred_queue.specs.Queue.{Queued, queued}
-use Rattle.isr_nesting.specs.Frames.{FrameRecord, none_stands}
-use Rattle.isr_nesting.specs.Marks.{marks_after, next_instruction}
+use Rattle.kern_base.specs.Numbers.{leave}
+use Rattle.machine_model.specs.Queue.{Queued, queued}
+use Rattle.machine_model.specs.Frames.{FrameRecord, none_stands}
+use Rattle.machine_model.specs.Marks.{marks_after, next_instruction}
 use Rattle.machine_model.specs.declared.events.How.{How}
 use Rattle.machine_model.specs.declared.events.How.TheVariants as how
 use Rattle.machine_model.specs.declared.events.What.{What}
@@ -34,12 +34,12 @@ use Rattle.machine_model.specs.declared.events.What.TheVariants.{Quiet, Exit, Tr
 use Rattle.machine_model.specs.Machine.{Machine, WholeStep, Work, CallOf, UnitOf, TakeOf, effect_of, registers_at}
 use Rattle.machine_model.specs.Answers.{Change}
 use Rattle.machine_model.specs.Settling.{settled, is_free}
-use Rattle.machine_model.specs.Interrupts.{leaves, without_top, frame_runs, frame_did, frame_calls, frame_posts, frame_refused, checked_post, queues, argument_words, interrupt_error, ran}
+use Rattle.machine_model.specs.Interrupts.{leaves, without_top, frame_runs, frame_did, frame_calls, frame_posts, frame_refused, checked_post, queues, argument_words, ran}
 use Rattle.machine_model.specs.Steps.{advances, ends, unit_ends}
 use Rattle.machine_model.specs.Acts.{acts, idles, starts_unit, works_in_units, instructs}
 use Rattle.machine_model.specs.Rules.{Rule, Begins, Looks, Enters, FrameLimit, FrameRuns, MicroStep, TakeBegins, TaskActs, rule, done, next}
 use Rattle.machine_laws.specs.Isolation.{HasSameWords, IsIsolated, HasAtMostOneMore, IsInterruptCode, IsEntry, IsEntryAlone, IsLeavingAlone}
-use Rattle.machine_laws.proofs.TrapLaws.{trap-exec}
+use Rattle.machine_laws.proofs.MemoryLaws.{trap-exec}
 
 -- A frame leaves.
 
@@ -107,7 +107,7 @@ apart-calls served s args f below regs m =
 apart-did : (served : Service → Bool) (did : Stepped) (e : Execution) (f : FrameRecord) (below : List FrameRecord) (marks : List ℕ) (m : Machine) → ApartBy m (frame_did served Deferred did e f below marks m)
 apart-did served Next e f below marks m =
     let goes : Change = record { what = Quiet; machine = record m { frames = ran f e.registers marks ∷ below } } in
-    choice (ApartBy m) (e.registers.pc == LEAVE) (leaves how.Ret f below m) goes (apart-leaves how.Ret f below m) (record { isolated = isolated-same m (ran f e.registers marks ∷ below); later = inl refl })
+    choice (ApartBy m) (e.registers.pc == leave) (leaves how.Ret f below m) goes (apart-leaves how.Ret f below m) (record { isolated = isolated-same m (ran f e.registers marks ∷ below); later = inl refl })
 apart-did served (Stored addr width value) e f below marks m =
     record { isolated = record { kernel = refl; registers = refl; in_hand = refl; looks = refl; begun = refl; t = refl; code = refl; config = refl }; later = inl refl }
 apart-did served Call e f below marks m = apart-calls served (service_of (read e.registers 17)) (argument_words e.registers) f below e.registers m
@@ -226,7 +226,7 @@ frames-calls served method s args f below regs m =
 frames-did : (served : Service → Bool) (method : Method) (did : Stepped) (e : Execution) (f : FrameRecord) (below : List FrameRecord) (marks : List ℕ) (m : Machine) → IsFrames m (frame_did served method did e f below marks m)
 frames-did served method Next e f below marks m =
     let goes : Change = record { what = Quiet; machine = record m { frames = ran f e.registers marks ∷ below } } in
-    choice (IsFrames m) (e.registers.pc == LEAVE) (leaves how.Ret f below m) goes (frames-leaves how.Ret f below m) (record { no_trap = refl; leaves = λ t. absurd (false≢true t) })
+    choice (IsFrames m) (e.registers.pc == leave) (leaves how.Ret f below m) goes (frames-leaves how.Ret f below m) (record { no_trap = refl; leaves = λ t. absurd (false≢true t) })
 frames-did served method (Stored addr width value) e f below marks m = record { no_trap = refl; leaves = λ t. absurd (false≢true t) }
 frames-did served method Call e f below marks m = frames-calls served method (service_of (read e.registers 17)) (argument_words e.registers) f below e.registers m
 frames-did served method (Trap kind pc) e f below marks m = frames-leaves (how.Trap kind pc) f below m

@@ -4,9 +4,9 @@ use Rattle.std.proofs.Common.{◌≡◌, ℕ, Bool, List, [], refl, sym}
 use Rattle.kern_base.specs.declared.kinds.Method.TheVariants.{Deferred}
 use Rattle.kern_base.specs.declared.services.Service.{Service}
 use Rattle.kern_model.specs.State.{Kernel, pick}
-use Rattle.kern_model.proofs.Tests.{choice_by, equal, and_first, and_second}
-use Rattle.deferred_queue.specs.Queue.{Queued}
-use Rattle.isr_nesting.specs.Frames.{FrameRecord, none_stands}
+use Rattle.kern_model.proofs.Lemmas.{choice_by, equal, and_first, and_second}
+use Rattle.machine_model.specs.Queue.{Queued}
+use Rattle.machine_model.specs.Frames.{FrameRecord, none_stands}
 use Rattle.machine_model.specs.Machine.{Machine}
 use Rattle.machine_model.specs.Settling.{settled, settled_task, is_free, none_waits}
 use Rattle.machine_model.specs.Interrupts.{without_top, frame_runs}
@@ -39,7 +39,7 @@ module _ (served : Service → Bool) (m : Machine) (v : V served Deferred m) whe
 
   keeps-runs : (f : FrameRecord) (below : List FrameRecord) → Keeps (frame_runs served Deferred f below m).machine
   keeps-runs f below =
-      after-frame served Deferred f below m Keeps (record { left = keeps-left below; ran = λ g memory used level. refl; posted = λ g s args used level post. refl })
+      after-frame served Deferred f below m Keeps (record { left = keeps-left below; ran = λ g memory used level. refl; posted = λ g s args words used level post. refl })
 
   keeps-done : (r : Rule) → IsInterruptCode r → Keeps (done served Deferred r m).machine
   keeps-done Begins h = absurd h

@@ -1,4 +1,3 @@
-pub mod TrapLaws
 pub mod IsolationLaws
 pub mod RuleFacts
 pub mod DueLaws
@@ -15,6 +14,7 @@ pub mod NextValid
 pub mod FallLaws
 pub mod RunEnds
 pub mod KeepsTask
+pub mod MachinesOf
 pub mod BoundLaws
 pub mod FewSteps
 pub mod PromptLaws
@@ -24,3 +24,5 @@ pub mod RequestTable
 pub mod WholeNext
 pub mod WholeStart
 pub mod WholeRuns
+pub mod MemoryLaws
+mod ServiceRows

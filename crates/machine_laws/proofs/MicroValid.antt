@@ -7,12 +7,13 @@ use Rattle.kern_base.specs.declared.kinds.Method.{Method}
 use Rattle.kern_base.specs.declared.kinds.Method.TheVariants.{Direct, Deferred}
 use Rattle.kern_base.specs.declared.services.Service.{Service}
 use Rattle.kern_base.specs.declared.requests.Request.{Request}
-use Rattle.kern_base.specs.Checks.{is_post}
+use Rattle.kern_base.specs.Services.{is_post}
+use Rattle.kern_model.specs.Call.{call_of}
 use Rattle.kern_model.specs.State.{Kernel, task_at, is_ready}
 use Rattle.kern_model.specs.Services.{effect, unit_effect, posted, cost}
-use Rattle.kern_model.specs.Valid.{IsValid, MayCall}
-use Rattle.kern_model.proofs.ValidEffect.{valid-effect, valid-unit}
-use Rattle.deferred_queue.specs.Queue.{Queued, front, without_front}
+use Rattle.kern_model.specs.Valid.{IsLinked, MayCall}
+use Rattle.kern_model.proofs.Lemmas.{linked-effect, linked-unit}
+use Rattle.machine_model.specs.Queue.{Queued, front, without_front}
 use Rattle.machine_model.specs.Machine.{Machine, WholeStep, Work, CallOf, UnitOf, TakeOf, effect_of, handler_compares}
 use Rattle.machine_model.specs.Steps.{advances, begins}
 use Rattle.machine_laws.specs.Valid.{HoldsLock, IsQueue, Fits, IsBegun, IsCallInHand, IsUnitInHand}
@@ -33,24 +34,24 @@ queue-without_front size (q ∷ qs) h = record { posts = All-tail (λ p. is_post
 -- The end of each work: the kernel is valid, and who holds the lock.
 
 record EndsWell (k : Kernel) (current : ℕ) (j : Kernel) : Type 0 where
-  valid : IsValid j
+  valid : IsLinked j
   holds : 0 < j.lock → HoldsLock current j
 
 -- the caller holds the lock that is left
-call-holds : (x : ℕ) (k j : Kernel) → IsValid k → MayCall x k → CallerStays x k j → 0 < j.lock → HoldsLock x j
+call-holds : (x : ℕ) (k j : Kernel) → IsLinked k → MayCall x k → CallerStays x k j → 0 < j.lock → HoldsLock x j
 call-holds x k j v (inl m) s l = inl (m.0, by s.ready, s.processing ∙ m.3)
   where
     by : (j.lock ≡ 0) ⊎ (is_ready (task_at k x) ≡ true → is_ready (task_at j x) ≡ true) → is_ready (task_at j x) ≡ true
     by (inl e) = absurd (omega (arith, l, e))
     by (inr r) = r m.1
-call-holds x k j v (inr m) s l = inr (m.0, s.processing ∙ v.callback m.1)
+call-holds x k j v (inr m) s l = inr (m.0, s.processing ∙ v.lock.callback m.1)
 
-call-ends : (served : Service → Bool) (x : ℕ) (r : Request) (p : ℕ) (k : Kernel) (current : ℕ) → IsValid k → IsCallInHand x current k → EndsWell k current (effect served r x p p k).kernel
+call-ends : (served : Service → Bool) (x : ℕ) (r : Request) (p : ℕ) (k : Kernel) (current : ℕ) → IsLinked k → IsCallInHand x current k → EndsWell k current (effect served (call_of r x p p) k).kernel
 call-ends served x r p k current v h =
-    let j = (effect served r x p p k).kernel in
+    let j = (effect served (call_of r x p p) k).kernel in
     record {
-      valid = valid-effect served r x p p k v (λ _. h.may_call);
-      holds = λ l. subst (λ y. HoldsLock y j) h.caller (call-holds x k j v h.may_call (caller-stays served r x p p k) l);
+      valid = linked-effect served (call_of r x p p) k v (λ _. h.may_call);
+      holds = λ l. subst (λ y. HoldsLock y j) h.caller (call-holds x k j v h.may_call (caller-stays served (call_of r x p p) k) l);
     }
 
 -- the tick task leaves the scheduler unlocked, and the timer task holds the lock where it is processing
@@ -67,19 +68,19 @@ unit-holds x k (inr e) h l =
     by some (inl z) = absurd (omega (arith, some, z))
     by some (inr p) = inr (refl, p)
 
-unit-ends : (x : ℕ) (k : Kernel) (current : ℕ) → IsValid k → IsUnitInHand x current k → EndsWell k current (unit_effect x k).kernel
+unit-ends : (x : ℕ) (k : Kernel) (current : ℕ) → IsLinked k → IsUnitInHand x current k → EndsWell k current (unit_effect x k).kernel
 unit-ends x k current v h =
     let j = (unit_effect x k).kernel in
     record {
-      valid = valid-unit x k v h.internal h.ready h.no_callback;
+      valid = linked-unit x k v h.internal h.ready (λ _. h.no_callback);
       holds = λ l. subst (λ y. HoldsLock y j) h.worker (unit-holds x k h.internal h.lock l);
     }
 
 -- a take leaves the scheduler unlocked
-take-ends : (served : Service → Bool) (s : Service) (args : List ℕ) (c h : ℕ) (k : Kernel) (current : ℕ) → IsValid k → k.lock ≡ 0 → is_post s ≡ true → EndsWell k current (posted served s args c h k).kernel
+take-ends : (served : Service → Bool) (s : Service) (args : List ℕ) (c h : ℕ) (k : Kernel) (current : ℕ) → IsLinked k → k.lock ≡ 0 → is_post s ≡ true → EndsWell k current (posted served s args c h k).kernel
 take-ends served s args c h k current v unlocked post =
     record {
-      valid = valid-effect served _ 63 c h k v (λ no. absurd (true≢false (sym post ∙ no)));
+      valid = linked-effect served (call_of _ 63 c h) k v (λ no. absurd (true≢false (sym post ∙ no)));
       holds = λ l. absurd (omega (arith, l, (calm-posted served s args c h k post).lock, unlocked));
     }
 
@@ -94,7 +95,7 @@ module _ (served : Service → Bool) (method : Method) (m : Machine) (v : V serv
         interrupts = v.interrupts;
         queue = v.queue;
         fits = fits-hand served method m None v frames;
-        stands = settled-rest method (effect served r x p p m.kernel).kernel m.current m.later m.frames d.valid d.holds;
+        stands = settled-rest method (effect served (call_of r x p p) m.kernel).kernel m.current m.later m.frames d.valid d.holds;
       }
   ends-valid (UnitOf x) h = λ registers e.
       let d = unit-ends x m.kernel m.current v.kernel h in

@@ -9,21 +9,21 @@ use Rattle.kern_base.specs.declared.kinds.Kind.TheVariants.{Sem, Queue, Flags, M
 use Rattle.kern_base.specs.declared.kinds.Method.{Method}
 use Rattle.kern_base.specs.declared.kinds.Method.TheVariants.{Direct, Deferred}
 use Rattle.kern_base.specs.declared.services.Service.{Service}
-use Rattle.kern_base.specs.Checks.{is_post}
+use Rattle.kern_base.specs.Services.{is_post}
 use Rattle.kern_model.specs.State.{Object}
-use Rattle.kern_model.specs.Valid.{IsValid, IsContent}
-use Rattle.kern_model.proofs.LeadLaws.{choice}
-use Rattle.kernel_calls.specs.Start.{start_state, object_of, content_of}
-use Rattle.kernel_calls.proofs.StartLaws.{valid-start, contents-each}
-use Rattle.tcb_pool.specs.Start.{start_registers, entry_registers}
-use Rattle.tcb_pool.specs.TaskView.{no_registers}
+use Rattle.kern_model.specs.Valid.{IsLinked, IsContent}
+use Rattle.kern_model.proofs.Lemmas.{choice}
+use Rattle.kern_model.specs.Start.{start_state, object_of, content_of}
+use Rattle.kern_laws.proofs.Start.Linked.{linked-start, contents-each}
+use Rattle.machine_model.specs.Start.{start_registers, entry_registers}
+use Rattle.rv32_exec.specs.Registers.{no_registers}
 use Rattle.app_image.specs.Image.{ImageRecord, IsValidImage, IsValidVector}
 use Rattle.app_image.specs.declared.records.ObjDef.{ObjDef}
 use Rattle.app_image.specs.declared.records.VectorDef.{VectorDef}
 use Rattle.inject_list.specs.Lists.{ListRecord, IsValidList}
 use Rattle.inject_list.specs.declared.lists.Injection.{Injection}
-use Rattle.deferred_queue.specs.Queue.{Queued}
-use Rattle.isr_nesting.specs.Frames.{Interrupt, interrupt_of}
+use Rattle.machine_model.specs.Queue.{Queued}
+use Rattle.machine_model.specs.Frames.{Interrupt, interrupt_of}
 use Rattle.machine_model.specs.Machine.{Machine, start}
 use Rattle.machine_model.specs.Rules.{Rule, Begins, Looks, Enters, FrameLimit, FrameRuns, MicroStep, TakeBegins, TaskActs, rule, done, next}
 use Rattle.app_image.specs.Layout.{HasWords, HasWordFields}
@@ -97,7 +97,7 @@ fits-start Deferred = tt
 
 pub valid-start_machine : (served : Service → Bool) (method : Method) (image : ImageRecord) (list : ListRecord) → IsValidImage image → HasWords image → IsValidList image list → V served method (start image list)
 valid-start_machine served method image list h words l =
-    let k : IsValid (start_state image) = valid-start image h (contents-each (map object_of image.objects) (contents-valid image.objects words.fields)) in
+    let k : IsLinked (start_state image) = linked-start image h (contents-each (map object_of image.objects) (contents-valid image.objects words.fields)) in
     record {
       kernel = k;
       registers = registers-start image h.tasks_room;

@@ -4,7 +4,7 @@ use Rattle.std.proofs.lemmas.List.{get_or_past}
 use Rattle.std.proofs.Common.{◌≡◌, ◌<◌, ◌≤◌, ◌⊎◌, inl, inr, ℕ, suc, Bool, true, false, List, [], ◌∷◌, refl, ◌∙◌, subst, arith, eq-eqb, ltb-true, ltb-false}
 use Rattle.kern_model.specs.State.{Kernel, Task, pick, first_of, list_at, count_of, task_at, no_task, prio_of, is_ready, is_zero}
 use Rattle.kern_base.specs.declared.outcomes.Waiting.TheVariants.{Signal, No}
-use Rattle.kern_model.specs.Valid.{IsValid, one_if}
+use Rattle.kern_model.specs.Valid.{IsLinked, one_if}
 
 -- it is the idle task, or it stands in a ready list
 pub record StandsIn (lists : List (List ℕ)) (x : ℕ) : Type 0 where
@@ -27,29 +27,29 @@ ready_of true c p = refl
 ready_of false c p = absurd (omega (arith, p))
 
 -- the picked task is ready
-pub ready-pick : (k : Kernel) → IsValid k → is_ready (task_at k (pick k)) ≡ true
+pub ready-pick : (k : Kernel) → IsLinked k → is_ready (task_at k (pick k)) ≡ true
 ready-pick k v = by_place (first-stands k.ready)
   where
     by_place : (pick k ≡ 62) ⊎ StandsIn k.ready (pick k) → is_ready (task_at k (pick k)) ≡ true
-    by_place (inl e) = rw e v.idle
-    by_place (inr h) = ready_of (is_ready (task_at k (pick k))) (prio_of k (pick k) == h.prio) (rw (v.stands h.prio (pick k)) at h.stands)
+    by_place (inl e) = rw e v.internal.idle
+    by_place (inr h) = ready_of (is_ready (task_at k (pick k))) (prio_of k (pick k) == h.prio) (rw (v.lists.stands h.prio (pick k)) at h.stands)
 
 -- No task stands at a number from 63 on.
 
 gone : (t : Task) → t.alive ≡ false → is_ready t ≡ true → ⊥
 gone t e ready = let h : false ≡ true = rw e at ready in cc
 
-no_such_task : (k : Kernel) → IsValid k → (x : ℕ) → 64 ≤ x → is_ready (task_at k x) ≡ true → ⊥
+no_such_task : (k : Kernel) → IsLinked k → (x : ℕ) → 64 ≤ x → is_ready (task_at k x) ≡ true → ⊥
 no_such_task k v x p ready =
-    let past : length k.tasks ≤ x = omega (arith, v.tasks, p) in
+    let past : length k.tasks ≤ x = omega (arith, v.sizes.tasks, p) in
     let e : task_at k x ≡ no_task = get_or_past k.tasks x no_task past in
     let h : is_ready no_task ≡ true = rw e at ready in
     cc
 
 -- a ready task has a number below 63
-pub ready-below : (k : Kernel) → IsValid k → (x : ℕ) → is_ready (task_at k x) ≡ true → x < 63
+pub ready-below : (k : Kernel) → IsLinked k → (x : ℕ) → is_ready (task_at k x) ≡ true → x < 63
 ready-below k v x ready =
-    let handler : x ≡ 63 → ⊥ = λ e. gone (task_at k 63) v.handler (subst (λ y. is_ready (task_at k y) ≡ true) e ready) in
+    let handler : x ≡ 63 → ⊥ = λ e. gone (task_at k 63) v.internal.handler (subst (λ y. is_ready (task_at k y) ≡ true) e ready) in
     let past : 64 ≤ x → ⊥ = λ p. no_such_task k v x p ready in
     by_order (nat_lt x 64) refl handler past
   where
@@ -58,10 +58,10 @@ ready-below k v x ready =
     by_order false e handler past = absurd (past (ltb-false x 64 e))
 
 -- while the timer task is processing it is ready
-pub ready-timer : (k : Kernel) → IsValid k → k.processing ≡ true → is_ready (task_at k 61) ≡ true
+pub ready-timer : (k : Kernel) → IsLinked k → k.processing ≡ true → is_ready (task_at k 61) ≡ true
 ready-timer k v p =
-    let waits : (task_at k 61).waiting ≡ No = v.timer_waits ∙ never (is_zero k.timer_signals) k.processing p in
-    rw (v.timer_lives.0, waits, v.timer_lives.1) refl
+    let waits : (task_at k 61).waiting ≡ No = v.internal.timer_waits ∙ never (is_zero k.timer_signals) k.processing p in
+    rw (v.internal.timer_lives.0, waits, v.internal.timer_lives.1) refl
   where
     never : (a b : Bool) → b ≡ true → (if a && not b then Signal else No) ≡ No
     never true true e = refl

@@ -5,12 +5,11 @@ use Rattle.std.specs.List.{Contains}
 use Rattle.std.proofs.lemmas.Bool.{false≢true, le-leb}
 use Rattle.std.proofs.lemmas.List.Elements.{All-nil, All-cons, All-contains, Contains-append_right, Contains-get_or}
 use Rattle.kern_base.specs.declared.kinds.Method.{Method}
-use Rattle.kern_model.proofs.LeadLaws.{choice}
-use Rattle.kern_model.proofs.Tests.{choice_by, less, not_less}
+use Rattle.kern_model.proofs.Lemmas.{choice, choice_by, less, not_less}
 use Rattle.inject_list.specs.declared.lists.Moment.{Moment}
 use Rattle.inject_list.specs.declared.lists.Moment.TheVariants.{Step}
-use Rattle.isr_nesting.specs.Frames.{FrameRecord, Interrupt, level_of}
-use Rattle.isr_nesting.specs.Due.{Place, due, due_from, lets_in, highest, highest_from, is_step}
+use Rattle.machine_model.specs.Frames.{FrameRecord, Interrupt, level_of}
+use Rattle.machine_model.specs.Due.{Place, due, due_from, lets_in, highest, highest_from, is_step}
 use Rattle.machine_model.specs.Machine.{Machine}
 use Rattle.machine_model.specs.Rules.{is_masked, is_quiet}
 use Rattle.machine_laws.specs.Prompt.{GoesBefore, EntersBefore, IsWanted}

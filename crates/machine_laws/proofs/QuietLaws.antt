@@ -6,10 +6,10 @@ use Rattle.kern_base.specs.declared.kinds.Method.{Method}
 use Rattle.kern_base.specs.declared.services.Service.{Service}
 use Rattle.kern_base.specs.declared.outcomes.Finished.{Finished}
 use Rattle.kern_model.specs.State.{Kernel, task_at}
-use Rattle.kern_model.proofs.LeadLaws.{choice}
+use Rattle.kern_model.proofs.Lemmas.{choice}
 use Rattle.app_image.specs.Image.{ImageRecord}
 use Rattle.inject_list.specs.Lists.{ListRecord}
-use Rattle.isr_nesting.specs.Frames.{FrameRecord, none_stands, interrupt_of}
+use Rattle.machine_model.specs.Frames.{FrameRecord, none_stands, interrupt_of}
 use Rattle.machine_model.specs.declared.events.Event.{Event}
 use Rattle.machine_model.specs.Machine.{Machine, WholeStep, Work, CallOf, UnitOf, TakeOf, start}
 use Rattle.machine_model.specs.Settling.{settled, is_free}

@@ -10,8 +10,9 @@ use Rattle.kern_base.specs.declared.errors.OsErr.TheVariants.{CallUnknown, SemOv
 use Rattle.kern_base.specs.declared.outcomes.Finished.{Finished}
 use Rattle.kern_base.specs.declared.outcomes.Waiting.{Waiting}
 use Rattle.kern_base.specs.declared.outcomes.Waiting.TheVariants.{No, TaskSem, TaskQ, Signal}
-use Rattle.kern_base.specs.Checks.{is_post}
-use Rattle.kern_model.specs.State.{Kernel, Task, Content, Count, Messages, Bits, list_at, task_at, no_task, update_task, with_task, with_content, is_ready, is_zero, waits_for_nothing, idle_task, tick_task, timer_task}
+use Rattle.kern_base.specs.Services.{is_post}
+use Rattle.kern_model.specs.State.{Kernel, Task, Content, Count, Messages, Bits, list_at, task_at, no_task, update_task, with_task, with_content, is_ready, is_zero, waits_for_nothing, handler_task, idle_task, tick_task, timer_task}
+use Rattle.kern_model.specs.Call.{Call, call_of}
 use Rattle.kern_model.specs.Effect.{Effect, refused, done, fine, message, wakes, wakes_all, answered_task, chosen, posted_result, result_of, and_then}
 use Rattle.kern_model.specs.Checks.{argument, named_task, call_error}
 use Rattle.kern_model.specs.FlagBits.{has_bit, ready_bits, bits_after}
@@ -22,9 +23,8 @@ use Rattle.kern_model.specs.TaskObjects.{task_counts_up, task_sem_post_to, task_
 use Rattle.kern_model.specs.RoundRobin.{first_in, full_quantum, rotates, spends, round_robin}
 use Rattle.kern_model.specs.Time.{signalled, signals_tick, signals_timer, time_tick}
 use Rattle.kern_model.specs.Inherit.{moved, moved_all, moves_of, renewed_tasks, renewed, with_prio}
-use Rattle.kern_model.specs.Services.{after_checks, row_of, content_for, posted, post_request}
-use Rattle.kern_model.proofs.LeadLaws.{choice}
-use Rattle.kern_model.proofs.Laws.{update_task_at}
+use Rattle.kern_model.specs.Services.{after_checks, perform, content_for, posted, post_request}
+use Rattle.kern_model.proofs.Lemmas.{choice, update_task_at}
 
 -- ready tasks stay ready
 abbrev pub StayReady : Kernel → Kernel → Type 0
@@ -200,20 +200,20 @@ calm-time_tick c h k =
 
 -- Every post leaves ready tasks ready.
 
-calm-row_of : (s : Service) (r : Request) (x c h : ℕ) (k : Kernel) → is_post s ≡ true → CalmBy k (row_of s r x c h k)
-calm-row_of SemPost r x c h k p = calm-sem_post (content_for r k) r h k
-calm-row_of QPost r x c h k p = calm-q_post (content_for r k) r h k
-calm-row_of FlagPost r x c h k p = calm-flag_post (content_for r k) r h k
-calm-row_of TaskSemPost r x c h k p = let y = named_task r x in calm-task_sem_post_to (task_at k y).waiting y h k
-calm-row_of TaskQPost r x c h k p = let y = named_task r x in calm-task_q_post_to (task_at k y).waiting r y h k
-calm-row_of TimeTick r x c h k p = calm-time_tick c h k
-calm-row_of _ r x c h k p = absurd (false≢true p)
+calm-perform : (s : Service) (call : Call) (k : Kernel) → is_post s ≡ true → CalmBy k (perform s call k)
+calm-perform SemPost call k p = calm-sem_post (content_for call.request k) call.request call.compared k
+calm-perform QPost call k p = calm-q_post (content_for call.request k) call.request call.compared k
+calm-perform FlagPost call k p = calm-flag_post (content_for call.request k) call.request call.compared k
+calm-perform TaskSemPost call k p = let y = named_task call.request call.caller in calm-task_sem_post_to (task_at k y).waiting y call.compared k
+calm-perform TaskQPost call k p = let y = named_task call.request call.caller in calm-task_q_post_to (task_at k y).waiting call.request y call.compared k
+calm-perform TimeTick call k p = calm-time_tick call.interrupted call.compared k
+calm-perform _ call k p = absurd (false≢true p)
 
-calm-after_checks : (e : Option OsErr) (r : Request) (x c h : ℕ) (k : Kernel) → is_post r.service ≡ true → CalmBy k (after_checks e r x c h k)
-calm-after_checks (Some err) r x c h k p = calm-refl k
-calm-after_checks None r x c h k p = calm-row_of r.service r x c h k p
+calm-after_checks : (e : Option OsErr) (call : Call) (k : Kernel) → is_post call.request.service ≡ true → CalmBy k (after_checks e call k)
+calm-after_checks (Some err) call k p = calm-refl k
+calm-after_checks None call k p = calm-perform call.request.service call k p
 
 pub calm-posted : (served : Service → Bool) (s : Service) (args : List ℕ) (c h : ℕ) (k : Kernel) → is_post s ≡ true → IsCalm k (posted served s args c h k).kernel
 calm-posted served s args c h k p =
-    let r = post_request s args in
-    choice (CalmBy k) (served r.service) (after_checks (call_error r 63 k) r 63 c h k) (refused k CallUnknown) (calm-after_checks (call_error r 63 k) r 63 c h k p) (calm-refl k)
+    let call = call_of (post_request s args) handler_task c h in
+    choice (CalmBy k) (served s) (after_checks (call_error call.request handler_task k) call k) (refused k CallUnknown) (calm-after_checks (call_error call.request handler_task k) call k p) (calm-refl k)

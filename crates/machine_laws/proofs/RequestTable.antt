@@ -1,5 +1,5 @@
 -- The table of a call that begins was read in RAM, so where a table is in hand it lies there.
-use Rattle.std.specs.Prelude.{◌==◌, ◌%◌, ◌&&◌, ◌*◌, ◌-◌, nat_le, length, take, replicate, slice_index, if◌then◌else◌}
+use Rattle.std.specs.Prelude.{All, ◌==◌, ◌%◌, ◌&&◌, ◌*◌, ◌-◌, nat_le, length, take, replicate, slice_index, if◌then◌else◌}
 use Rattle.std.proofs.Common.{◌≡◌, ◌≤◌, ℕ, zero, suc, ◌+◌, Bool, true, List, ◌++◌, Option, Some, None, refl, sym, ap, ◌∙◌, subst}
 use Rattle.std.proofs.lemmas.Bool.{false≢true}
 use Rattle.std.proofs.lemmas.List.{take_at}
@@ -8,8 +8,8 @@ use Rattle.kern_base.specs.declared.services.Service.{Service}
 use Rattle.kern_base.specs.declared.requests.Request.{Request}
 use Rattle.kern_base.specs.declared.outcomes.Finished.{Finished}
 use Rattle.kern_model.specs.State.{idle_task}
-use Rattle.kern_model.proofs.Tests.{choice_by, equal, at_most, and_first, and_second}
-use Rattle.kern_laws.specs.Consistent.{HasRequestTable}
+use Rattle.kern_model.proofs.Lemmas.{choice_by, equal, at_most, and_first, and_second}
+use Rattle.kern_model.specs.Valid.{IsRequest, IsWord}
 use Rattle.rv32_exec.specs.Registers.{Registers, read}
 use Rattle.rv32_exec.specs.Memory.{ram_start, ram_end}
 use Rattle.rv32_exec.specs.Exec.{Execution, exec}
@@ -19,7 +19,8 @@ use Rattle.machine_model.specs.Machine.{Machine, registers_at}
 use Rattle.machine_model.specs.Answers.{Change}
 use Rattle.machine_model.specs.Interrupts.{argument_words}
 use Rattle.machine_model.specs.Acts.{is_table, first_words, plain_request, table_request, has_table, request_of, acts, instructs, idles, starts_unit, works_in_units}
-use Rattle.machine_laws.specs.Whole.{HandsTable}
+use Rattle.machine_laws.specs.Whole.{HandsWords}
+use Rattle.machine_laws.proofs.StepCases.{word-arguments}
 
 -- the request of a call
 
@@ -32,47 +33,50 @@ length-table : (memory : List ℕ) (address n : ℕ) (rest : List ℕ) → lengt
 length-table memory address n rest =
     ap (λ l. length l) (take_at (first_words memory address n) rest n (length-first_words memory address n)) ∙ length-first_words memory address n
 
-plain-table : (s : Service) (args : List ℕ) → HasRequestTable (plain_request s args)
-plain-table s args multi read = absurd (false≢true read)
+plain-table : (s : Service) (args : List ℕ) → All IsWord args → IsRequest (plain_request s args)
+plain-table s args words = record { words = words; table = λ multi read. absurd (false≢true read) }
 
-read-table : (s : Service) (args memory : List ℕ) → HasRequestTable (table_request s args memory)
-read-table s args memory =
+read-table : (s : Service) (args memory : List ℕ) → All IsWord args → IsRequest (table_request s args memory)
+read-table s args memory words =
     let address = slice_index args 0 in
     let n = slice_index args 1 in
-    choice_by (λ (r : Request). HasRequestTable r) (is_table address n) (record { service = s; args = args; ids = first_words memory address n ++ replicate (8 - n) 0; n_ids = n; table = true }) (plain_request s args)
-    (λ t _ _.
-    let some = nat_le 1 n in
-    let few = nat_le n 8 in
-    let aligned = address % 4 == 0 in
-    let from = nat_le ram_start address in
-    let to = nat_le (address + 16 * n) ram_end in
-    let a = and_second some (few && (aligned && (from && to))) t in
-    let b = and_second few (aligned && (from && to)) a in
-    let c = and_second aligned (from && to) b in
-    let long = length-table memory address n (replicate (8 - n) 0) in
-    let least = at_most 1 n (and_first some (few && (aligned && (from && to))) t) in
-    let most = at_most (address + 16 * n) ram_end (and_second from to c) in
-    record {
-      some = subst (λ i. 1 ≤ i) (sym long) least;
-      aligned = equal (address % 4) 0 (and_first aligned (from && to) b);
-      from = at_most ram_start address (and_first from to c);
-      to = subst (λ i. address + 16 * i ≤ ram_end) (sym long) most;
+    choice_by (λ (r : Request). IsRequest r) (is_table address n) (record { service = s; args = args; ids = first_words memory address n ++ replicate (8 - n) 0; n_ids = n; table = true }) (plain_request s args)
+    (λ t. record {
+      words = words;
+      table = λ _ _.
+          let some = nat_le 1 n in
+          let few = nat_le n 8 in
+          let aligned = address % 4 == 0 in
+          let from = nat_le ram_start address in
+          let to = nat_le (address + 16 * n) ram_end in
+          let a = and_second some (few && (aligned && (from && to))) t in
+          let b = and_second few (aligned && (from && to)) a in
+          let c = and_second aligned (from && to) b in
+          let long = length-table memory address n (replicate (8 - n) 0) in
+          let least = at_most 1 n (and_first some (few && (aligned && (from && to))) t) in
+          let most = at_most (address + 16 * n) ram_end (and_second from to c) in
+          record {
+            some = subst (λ i. 1 ≤ i) (sym long) least;
+            aligned = equal (address % 4) 0 (and_first aligned (from && to) b);
+            from = at_most ram_start address (and_first from to c);
+            to = subst (λ i. address + 16 * i ≤ ram_end) (sym long) most;
+          };
     })
-    (λ _. plain-table s args)
+    (λ _. plain-table s args words)
 
-pub request-table : (served : Service → Bool) (regs : Registers) (memory : List ℕ) → HasRequestTable (request_of served regs memory)
+pub request-table : (served : Service → Bool) (regs : Registers) (memory : List ℕ) → IsRequest (request_of served regs memory)
 request-table served regs memory =
     let s = service_of (read regs 17) in
     let args = argument_words regs in
-    choice_by (λ (r : Request). HasRequestTable r) (has_table s && served s) (table_request s args memory) (plain_request s args) (λ _. read-table s args memory) (λ _. plain-table s args)
+    choice_by (λ (r : Request). IsRequest r) (has_table s && served s) (table_request s args memory) (plain_request s args) (λ _. read-table s args memory (word-arguments regs)) (λ _. plain-table s args (word-arguments regs))
 
 -- what comes in hand where the current task acts
 
 module _ (served : Service → Bool) (x : ℕ) (m : Machine) (none : m.in_hand ≡ None) where
   abbrev Hands : Change → Type 0
-  Hands c = HandsTable c.machine.in_hand
+  Hands c = HandsWords c.machine.in_hand
 
-  nothing : HandsTable m.in_hand
+  nothing : HandsWords m.in_hand
   nothing = rw none tt
 
   instructs-table : (did : Stepped) (e : Execution) → Hands (instructs served did x e m)

@@ -8,11 +8,10 @@ use Rattle.kern_base.specs.declared.services.Service.{Service}
 use Rattle.kern_model.specs.State.{Kernel, task_at, is_ready, pick}
 use Rattle.kern_model.specs.Effect.{Effect}
 use Rattle.kern_model.specs.Services.{cost}
-use Rattle.kern_model.specs.Valid.{IsValid}
-use Rattle.kern_model.proofs.Tests.{choice_by, equal, unequal, and_first}
-use Rattle.kern_model.proofs.CostLaws.{cost-blocks}
-use Rattle.deferred_queue.specs.Queue.{Queued}
-use Rattle.isr_nesting.specs.Frames.{FrameRecord}
+use Rattle.kern_model.specs.Valid.{IsLinked}
+use Rattle.kern_model.proofs.Lemmas.{choice_by, equal, unequal, and_first, cost-blocks}
+use Rattle.machine_model.specs.Queue.{Queued}
+use Rattle.machine_model.specs.Frames.{FrameRecord}
 use Rattle.machine_model.specs.Machine.{Machine, WholeStep}
 use Rattle.machine_model.specs.Settling.{none_waits, settled_task}
 use Rattle.machine_laws.specs.Valid.{Fits, HoldsLock, IsAtRest, IsInHand, IsValidMachine}
@@ -29,7 +28,7 @@ no_post [] e = refl
 no_post (q ∷ qs) e = absurd (true≢false (sym e))
 
 -- a settled machine with nothing in hand is at rest, where the current task holds the lock if there is one
-pub settled-rest : (method : Method) (k : Kernel) (current : ℕ) (later : List Queued) (frames : List FrameRecord) → IsValid k → (0 < k.lock → HoldsLock current k) → IsAtRest method k (settled_task k later current) later frames
+pub settled-rest : (method : Method) (k : Kernel) (current : ℕ) (later : List Queued) (frames : List FrameRecord) → IsLinked k → (0 < k.lock → HoldsLock current k) → IsAtRest method k (settled_task k later current) later frames
 settled-rest method k current later frames v holds =
     choice_by (λ x. IsAtRest method k x later frames) ((k.lock == 0) && none_waits later) (pick k) current
     (λ t.
@@ -43,11 +42,11 @@ settled-rest method k current later frames v holds =
 -- Who acts.
 
 -- where the scheduler is not locked the timer task is not processing
-pub idle_timer : (k : Kernel) → IsValid k → k.lock ≡ 0 → k.processing ≡ false
+pub idle_timer : (k : Kernel) → IsLinked k → k.lock ≡ 0 → k.processing ≡ false
 idle_timer k v e = by k.processing refl
   where
     by : (b : Bool) → k.processing ≡ b → b ≡ false
-    by true p = let l = v.locked p in absurd (omega (arith, l, e))
+    by true p = let l = v.lock.locked p in absurd (omega (arith, l, e))
     by false p = refl
 
 -- a task that acts is ready; only the timer task acts while it is processing
@@ -56,12 +55,12 @@ pub record IsActing (x : ℕ) (k : Kernel) : Type 0 where
   pub timer : (k.processing ≡ false) ⊎ (x ≡ 61)
   pub lock : (k.lock ≡ 0) ⊎ HoldsLock x k
 
-holder-acts : (x : ℕ) (k : Kernel) → IsValid k → HoldsLock x k → IsActing x k
+holder-acts : (x : ℕ) (k : Kernel) → IsLinked k → HoldsLock x k → IsActing x k
 holder-acts x k v (inl h) = record { ready = h.1; timer = inl h.2; lock = inr (inl h) }
 holder-acts x k v (inr h) = record { ready = subst (λ y. is_ready (task_at k y) ≡ true) (sym h.0) (ready-timer k v h.1); timer = inr h.0; lock = inr (inr h) }
 
 -- the current task acts where no post can be taken
-pub acting : (method : Method) (k : Kernel) (x : ℕ) (later : List Queued) (frames : List FrameRecord) → IsValid k → IsAtRest method k x later frames → (k.lock ≡ 0 → later ≡ []) → IsActing x k
+pub acting : (method : Method) (k : Kernel) (x : ℕ) (later : List Queued) (frames : List FrameRecord) → IsLinked k → IsAtRest method k x later frames → (k.lock ≡ 0 → later ≡ []) → IsActing x k
 acting method k x later frames v h none = by (k.lock == 0) refl
   where
     by : (b : Bool) → (k.lock == 0) ≡ b → IsActing x k

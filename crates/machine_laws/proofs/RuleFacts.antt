@@ -3,11 +3,11 @@ use Rattle.std.specs.Prelude.{◌==◌, nat_le}
 use Rattle.std.proofs.Common.{◌≡◌, Bool, true, false, List, [], ◌∷◌, Option, Some, None, refl}
 use Rattle.std.proofs.lemmas.Bool.{true≢false}
 use Rattle.kern_base.specs.declared.kinds.Method.{Method}
-use Rattle.kern_model.proofs.Tests.{equal, at_most, above, choice_by}
+use Rattle.kern_model.proofs.Lemmas.{equal, at_most, above, choice_by}
 use Rattle.inject_list.specs.declared.lists.Look.{Look}
-use Rattle.deferred_queue.specs.Queue.{Queued, front}
-use Rattle.isr_nesting.specs.Frames.{FrameRecord}
-use Rattle.isr_nesting.specs.Due.{Place, due}
+use Rattle.machine_model.specs.Queue.{Queued, front}
+use Rattle.machine_model.specs.Frames.{FrameRecord}
+use Rattle.machine_model.specs.Due.{Place, due}
 use Rattle.machine_model.specs.Machine.{Machine, WholeStep}
 use Rattle.machine_model.specs.Looks.{look_at}
 use Rattle.machine_model.specs.Rules.{Rule, Begins, FrameLimit, FrameRuns, rule, rule_of_look, rule_of_due, rule_of_frames, rule_in_hand, rule_of_post, is_masked, is_quiet}

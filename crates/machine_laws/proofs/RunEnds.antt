@@ -4,11 +4,10 @@ use Rattle.std.proofs.Common.{◌≡◌, ◌⊎◌, inl, inr, ◌<◌, ◌≤◌
 use Rattle.kern_base.specs.declared.kinds.Method.{Method}
 use Rattle.kern_base.specs.declared.services.Service.{Service}
 use Rattle.kern_model.specs.State.{Kernel, task_at}
-use Rattle.kern_model.proofs.LeadLaws.{choice}
-use Rattle.kern_model.proofs.Tests.{equal, unequal}
+use Rattle.kern_model.proofs.Lemmas.{choice, equal, unequal}
 use Rattle.app_image.specs.Image.{ImageRecord, IsValidImage}
 use Rattle.inject_list.specs.Lists.{ListRecord, IsValidList}
-use Rattle.isr_nesting.specs.Frames.{FrameRecord, none_stands, level_of}
+use Rattle.machine_model.specs.Frames.{FrameRecord, none_stands, level_of}
 use Rattle.machine_model.specs.Machine.{Machine, Work, CallOf, UnitOf, TakeOf, start}
 use Rattle.machine_model.specs.Settling.{settled, is_free}
 use Rattle.machine_model.specs.Bound.{events_left}
@@ -48,7 +47,7 @@ module _ (served : Service → Bool) (method : Method) (m : Machine) where
       (record {
         left = moves-left below;
         ran = λ g memory used level. inl refl;
-        posted = λ g s args used level post. inl refl;
+        posted = λ g s args words used level post. inl refl;
       })
 
   moves-ends : (w : Work) (k : Kernel) → m.frames ≡ [] → EndsIn w k m (Moves m)

@@ -1,11 +1,11 @@
 -- The machines that each rule comes to: what holds of each of them holds after the rule.
-use Rattle.std.specs.Prelude.{◌==◌, if◌then◌else◌, length, slice_set}
-use Rattle.std.proofs.Common.{◌≡◌, ◌≢◌, ℕ, ◌+◌, Bool, true, false, List, ◌∷◌, Option, Some, None, refl}
+use Rattle.std.specs.Prelude.{All, ◌%◌, ◌^◌, ◌==◌, if◌then◌else◌, length, slice_set}
+use Rattle.std.proofs.Common.{◌≡◌, ◌≢◌, ℕ, ◌+◌, Bool, true, false, List, [], ◌∷◌, Option, Some, None, refl, arith}
 use Rattle.std.proofs.lemmas.List.{length-set}
+use Rattle.std.proofs.lemmas.List.Elements.{All-cons, All-nil}
 use Rattle.kern_base.specs.declared.kinds.Method.{Method}
 use Rattle.kern_base.specs.declared.services.Service.{Service}
-use Rattle.kern_base.specs.Services.{service_of}
-use Rattle.kern_base.specs.Checks.{is_post}
+use Rattle.kern_base.specs.Services.{service_of, is_post, interrupt_error}
 use Rattle.kern_base.specs.declared.errors.OsErr.TheVariants.{CallUnknown}
 use Rattle.kern_base.specs.declared.requests.Request.{Request}
 use Rattle.kern_base.specs.declared.outcomes.Finished.{Finished}
@@ -16,51 +16,60 @@ use Rattle.kern_base.specs.declared.outcomes.Outcome.TheVariants as outcome
 use Rattle.kern_model.specs.State.{Kernel, Content, Timed, object_at, task_at, prio_of, idle_task}
 use Rattle.kern_model.specs.Finish.{finished}
 use Rattle.kern_model.specs.Services.{cost}
-use Rattle.kern_model.proofs.LeadLaws.{choice}
-use Rattle.kern_model.proofs.Tests.{choice_by, equal, unequal}
+use Rattle.kern_model.specs.Valid.{IsWord}
+use Rattle.kern_model.proofs.Lemmas.{choice, choice_by, equal, unequal}
 use Rattle.rv32_exec.specs.Registers.{Registers, read}
 use Rattle.rv32_exec.specs.Exec.{Execution, exec}
 use Rattle.rv32_exec.specs.declared.Stepped.{Stepped}
 use Rattle.rv32_exec.specs.declared.Stepped.TheVariants.{Next, Call, Trap, Stored}
 use Rattle.app_image.specs.declared.settings.Config.{Config}
-use Rattle.tcb_pool.specs.declared.tables.TheConstants.{LEAVE}
-use Rattle.deferred_queue.specs.Queue.{without_front}
-use Rattle.isr_nesting.specs.Frames.{FrameRecord}
-use Rattle.isr_nesting.specs.Marks.{marks_after, next_instruction}
+use Rattle.kern_base.specs.Numbers.{leave}
+use Rattle.machine_model.specs.Queue.{without_front}
+use Rattle.machine_model.specs.Frames.{FrameRecord}
+use Rattle.machine_model.specs.Marks.{marks_after, next_instruction}
 use Rattle.machine_model.specs.declared.events.How.TheVariants as how
 use Rattle.machine_model.specs.declared.events.What.TheVariants.{Quiet}
 use Rattle.machine_model.specs.Machine.{Machine, WholeStep, Work, CallOf, UnitOf, TakeOf, effect_of, registers_at}
 use Rattle.machine_model.specs.Answers.{Change}
 use Rattle.machine_model.specs.Settling.{settled}
-use Rattle.machine_model.specs.Interrupts.{leaves, without_top, frame_runs, frame_did, frame_calls, frame_posts, frame_refused, posting, argument_words, interrupt_error, ran}
+use Rattle.machine_model.specs.Interrupts.{leaves, without_top, frame_runs, frame_did, frame_calls, frame_posts, frame_refused, posting, argument_words, ran}
 use Rattle.machine_model.specs.Steps.{advances, ends, begins, after_fire, with_callback}
 use Rattle.machine_model.specs.Acts.{acts, idles, starts_unit, works_in_units, instructs, after_instruction, trapped, request_of}
+
+-- the words of a0 to a3 are words
+pub word-arguments : (regs : Registers) → All IsWord (argument_words regs)
+word-arguments regs =
+    let a = read regs 10 % 2 ^ 32 in
+    let b = read regs 11 % 2 ^ 32 in
+    let c = read regs 12 % 2 ^ 32 in
+    let d = read regs 13 % 2 ^ 32 in
+    All-cons IsWord a (b ∷ c ∷ d ∷ []) (omega arith) (All-cons IsWord b (c ∷ d ∷ []) (omega arith) (All-cons IsWord c (d ∷ []) (omega arith) (All-cons IsWord d [] (omega arith) (All-nil IsWord))))
 
 -- An instruction of the top frame: the frame leaves, or it stands on, with one instruction more, where the memory or
 -- nothing else has changed, or a post was made.
 pub record AfterFrame (served : Service → Bool) (method : Method) (f : FrameRecord) (below : List FrameRecord) (m : Machine) (P : Machine → Type 0) : Type 0 where
   pub left : P (without_top below m)
   pub ran : (g : FrameRecord) (memory : List ℕ) → g.used ≡ f.used + 1 → g.level ≡ f.level → P (record m { memory = memory; frames = g ∷ below })
-  pub posted : (g : FrameRecord) (s : Service) (args : List ℕ) → g.used ≡ f.used + 1 → g.level ≡ f.level → is_post s ≡ true → P (record m { kernel = (posting served method s args m).kernel; later = (posting served method s args m).later; frames = g ∷ below })
+  pub posted : (g : FrameRecord) (s : Service) (args : List ℕ) → All IsWord args → g.used ≡ f.used + 1 → g.level ≡ f.level → is_post s ≡ true → P (record m { kernel = (posting served method s args m).kernel; later = (posting served method s args m).later; frames = g ∷ below })
 
 module _ (served : Service → Bool) (method : Method) (f : FrameRecord) (below : List FrameRecord) (m : Machine) (P : Machine → Type 0) (h : AfterFrame served method f below m P) where
   abbrev By : Change → Type 0
   By c = P c.machine
 
-  case-calls : (s : Service) (args : List ℕ) (regs : Registers) → By (frame_calls served method s args f below regs m)
-  case-calls s args regs =
+  case-calls : (s : Service) (args : List ℕ) (regs : Registers) → All IsWord args → By (frame_calls served method s args f below regs m)
+  case-calls s args regs words =
       let post = frame_posts served method s args f below regs m in
       let refuse = frame_refused served method s (interrupt_error s) f below regs m in
       let unknown = frame_refused served method s CallUnknown f below regs m in
       choice By (served s) (if is_post s then post else refuse) unknown
-      (choice_by By (is_post s) post refuse (h.posted _ s args refl refl) (λ _. h.ran _ m.memory refl refl))
+      (choice_by By (is_post s) post refuse (h.posted _ s args words refl refl) (λ _. h.ran _ m.memory refl refl))
       (h.ran _ m.memory refl refl)
 
   case-did : (did : Stepped) (e : Execution) (marks : List ℕ) → By (frame_did served method did e f below marks m)
   case-did Next e marks =
-      choice By (e.registers.pc == LEAVE) (leaves how.Ret f below m) (record { what = Quiet; machine = record m { frames = ran f e.registers marks ∷ below } }) h.left (h.ran _ m.memory refl refl)
+      choice By (e.registers.pc == leave) (leaves how.Ret f below m) (record { what = Quiet; machine = record m { frames = ran f e.registers marks ∷ below } }) h.left (h.ran _ m.memory refl refl)
   case-did (Stored addr width value) e marks = h.ran _ e.memory refl refl
-  case-did Call e marks = case-calls (service_of (read e.registers 17)) (argument_words e.registers) e.registers
+  case-did Call e marks = case-calls (service_of (read e.registers 17)) (argument_words e.registers) e.registers (word-arguments e.registers)
   case-did (Trap kind pc) e marks = h.left
 
   pub after-frame : P (frame_runs served method f below m).machine

@@ -4,16 +4,16 @@ use Rattle.std.proofs.lemmas.Bool.{true≢false}
 use Rattle.kern_base.specs.declared.kinds.Method.{Method}
 use Rattle.kern_base.specs.declared.services.Service.{Service}
 use Rattle.kern_model.specs.State.{Kernel}
-use Rattle.kern_model.specs.Valid.{IsValid, MayCall}
+use Rattle.kern_model.specs.Valid.{IsLinked, MayCall}
 use Rattle.app_image.specs.declared.settings.Config.{Config}
-use Rattle.deferred_queue.specs.Queue.{Queued}
-use Rattle.isr_nesting.specs.Frames.{FrameRecord}
+use Rattle.machine_model.specs.Queue.{Queued}
+use Rattle.machine_model.specs.Frames.{FrameRecord}
 use Rattle.machine_model.specs.Machine.{Machine, WholeStep, Work, CallOf, UnitOf, TakeOf}
 use Rattle.machine_laws.specs.Valid.{HoldsLock, IsBegun, Stands, IsValidMachine}
 
-module _ (k : Kernel) (v : IsValid k) (p : k.processing ≡ true) (current : ℕ) where
+module _ (k : Kernel) (v : IsLinked k) (p : k.processing ≡ true) (current : ℕ) where
   locked : k.lock ≡ 0 → ⊥
-  locked e = let l = v.locked p in omega (arith, l, e)
+  locked e = let l = v.lock.locked p in omega (arith, l, e)
 
   holder : HoldsLock current k → current ≡ 61
   holder (inl h) = absurd (true≢false (sym p ∙ h.2))
@@ -34,7 +34,7 @@ module _ (k : Kernel) (v : IsValid k) (p : k.processing ≡ true) (current : ℕ
 
   stands : (served : Service → Bool) (method : Method) (config : Config) (hand : Option WholeStep) (later : List Queued) (frames : List FrameRecord) → Stands served method config hand k current later frames → current ≡ 61
   stands served method config (Some w) later frames h = begun w.work later h.begun
-  stands served method config None later frames h = holder (h.locked (v.locked p))
+  stands served method config None later frames h = holder (h.locked (v.lock.locked p))
 
 pub timer-current : (served : Service → Bool) (method : Method) (m : Machine) → IsValidMachine served method m → m.kernel.processing ≡ true → m.current ≡ 61
 timer-current served method m v p = stands m.kernel v.kernel p m.current served method m.config m.in_hand m.later m.frames v.stands

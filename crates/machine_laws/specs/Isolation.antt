@@ -6,19 +6,14 @@ use Rattle.kern_base.specs.declared.numbers.TaskId.{TaskId}
 use Rattle.kern_base.specs.declared.services.Service.{Service}
 use Rattle.rv32_exec.specs.Registers.{Registers}
 use Rattle.rv32_exec.specs.Exec.{exec}
+use Rattle.rv32_exec.specs.Changes.{IsUntouched}
 use Rattle.rv32_exec.specs.declared.TrapKind.{TrapKind}
 use Rattle.rv32_exec.specs.declared.Stepped.TheVariants.{Trap}
-use Rattle.deferred_queue.specs.Queue.{Queued}
+use Rattle.machine_model.specs.Queue.{Queued}
 use Rattle.machine_model.specs.declared.events.How.{How}
 use Rattle.machine_model.specs.declared.events.What.TheVariants.{Trap as TrapLine, Exit}
 use Rattle.machine_model.specs.Machine.{Machine}
 use Rattle.machine_model.specs.Rules.{Rule, Enters, FrameLimit, FrameRuns, rule, next}
-
--- these registers and this memory are as they were, and the address is that of the instruction
-pub record IsUntouched (old new : Registers) (before after : List ℕ) (pc : ℕ) : Type 0 where
-  pub registers : new ≡ old
-  pub memory : after ≡ before
-  pub at : pc ≡ old.pc
 
 -- An instruction that traps changes nothing, and the trap names its address.
 abbrev pub TrapChangesNothing : Type 0

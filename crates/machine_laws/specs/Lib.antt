@@ -6,3 +6,5 @@ pub mod Ending
 pub mod StepBound
 pub mod Prompt
 pub mod Whole
+pub mod Memory
+pub mod Machines

@@ -2,8 +2,8 @@
 use Rattle.std.specs.Prelude.{◌≡◌, ◌⊎◌, ◌<◌, ◌≤◌, ℕ, true, false, Some, None, slice_get}
 use Rattle.kern_base.specs.declared.kinds.Method.{Method}
 use Rattle.inject_list.specs.declared.lists.Moment.TheVariants.{Step}
-use Rattle.isr_nesting.specs.Frames.{Interrupt, level_of}
-use Rattle.isr_nesting.specs.Due.{Place}
+use Rattle.machine_model.specs.Frames.{Interrupt, level_of}
+use Rattle.machine_model.specs.Due.{Place}
 use Rattle.machine_model.specs.Machine.{Machine}
 use Rattle.machine_model.specs.Looks.{look_at}
 use Rattle.machine_model.specs.Rules.{Enters, rule, is_masked}

@@ -2,9 +2,9 @@
 use Rattle.std.specs.Prelude.{◌≡◌, ◌<◌, ◌≤◌, true, false, List, [], ◌∷◌, Option, Some, None}
 use Rattle.kern_base.specs.declared.kinds.Method.{Method}
 use Rattle.inject_list.specs.declared.lists.Look.{Look}
-use Rattle.deferred_queue.specs.Queue.{front}
-use Rattle.isr_nesting.specs.Frames.{FrameRecord}
-use Rattle.isr_nesting.specs.Due.{Place, due}
+use Rattle.machine_model.specs.Queue.{front}
+use Rattle.machine_model.specs.Frames.{FrameRecord}
+use Rattle.machine_model.specs.Due.{Place, due}
 use Rattle.machine_model.specs.Machine.{Machine, WholeStep}
 use Rattle.machine_model.specs.Looks.{look_at}
 use Rattle.machine_model.specs.Rules.{Rule, Begins, Looks, Enters, FrameLimit, FrameRuns, MicroStep, TakeBegins, TaskActs, rule, is_masked, is_quiet}

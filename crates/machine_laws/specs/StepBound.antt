@@ -1,27 +1,21 @@
 -- How many raw steps a run takes: each task step and each take takes at most a whole step, and each instruction of a frame
 -- one more.
-use Rattle.std.specs.Prelude.{◌≡◌, ◌≤◌, ◌<◌, ℕ, zero, suc, ◌+◌, ◌*◌, ◌^◌, ◌==◌, Bool, true, false, List, [], ◌∷◌, length}
+use Rattle.std.specs.Prelude.{◌≤◌, ◌<◌, ℕ, ◌+◌, ◌*◌, ◌^◌, Bool, true, false, List, length, map}
 use Rattle.std.specs.List.{count_by}
 use Rattle.kern_base.specs.declared.kinds.Method.{Method}
 use Rattle.kern_base.specs.declared.services.Service.{Service}
 use Rattle.app_image.specs.Image.{ImageRecord, IsValidImage}
 use Rattle.inject_list.specs.Lists.{ListRecord, IsValidList, last_moment}
-use Rattle.machine_model.specs.Machine.{Machine, start}
+use Rattle.machine_model.specs.Machine.{Machine}
 use Rattle.machine_model.specs.Bound.{events_left, whole_step_events}
 use Rattle.machine_model.specs.Rules.{Rule, Enters, FrameRuns, TakeBegins, rule, next}
-use Rattle.machine_model.specs.Run.{run}
+use Rattle.machine_model.specs.Run.{machines, run}
 use Rattle.app_image.specs.Layout.{HasWords}
 use Rattle.machine_laws.specs.Valid.{IsValidMachine}
 
-module _ (served : Service → Bool) (method : Method) where
-  -- the rules of the events from a machine on until there are n task steps, but of no more than so many
-  abbrev pub rules_on : ℕ → ℕ → Machine → List Rule
-  rules_on n zero m = []
-  rules_on n (suc more) m = elim (m.t == n) [ true ↦ [] | false ↦ rule method m ∷ rules_on n more (next served method m).1 ]
-
-  -- the rules of the events of a run, in order
-  abbrev pub rules_of : ImageRecord → ListRecord → ℕ → List Rule
-  rules_of image list n = let m = start image list in rules_on n (events_left n m) m
+-- the rules of the events of a run, in order: those of its machines
+abbrev pub rules_of : (Service → Bool) → Method → ImageRecord → ListRecord → ℕ → List Rule
+rules_of served method image list n = map (rule method) (machines served method image list n)
 
 -- a take begins
 abbrev pub is_take : Rule → Bool
@@ -37,10 +31,6 @@ is_instruction r = false
 abbrev pub is_entry : Rule → Bool
 is_entry (Enters p) = true
 is_entry r = false
-
--- the rules of a run are those of its events
-abbrev pub RulesAreOfEvents : Type 0
-RulesAreOfEvents = (served : Service → Bool) (method : Method) (image : ImageRecord) (list : ListRecord) (n : ℕ) → length (rules_of served method image list n) ≡ length (run served method image list n).events
 
 -- The counts of a run: its raw steps are bounded by its task steps, its takes and the instructions of its frames; each entry
 -- lets in at most as many instructions as the settings allow; no more interrupts enter than the list has; and no more posts

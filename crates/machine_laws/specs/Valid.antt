@@ -3,16 +3,16 @@ use Rattle.std.specs.Prelude.{◌≡◌, ◌⊎◌, ◌<◌, ◌≤◌, ℕ, Boo
 use Rattle.kern_base.specs.declared.kinds.Method.{Method}
 use Rattle.kern_base.specs.declared.kinds.Method.TheVariants.{Direct, Deferred}
 use Rattle.kern_base.specs.declared.services.Service.{Service}
-use Rattle.kern_base.specs.Checks.{is_post}
+use Rattle.kern_base.specs.Services.{is_post}
 use Rattle.kern_model.specs.State.{Kernel, task_at, is_ready, pick}
 use Rattle.kern_model.specs.Services.{cost}
-use Rattle.kern_model.specs.Valid.{IsValid, MayCall}
+use Rattle.kern_model.specs.Valid.{IsLinked, MayCall}
 use Rattle.app_image.specs.Image.{ImageRecord, IsValidImage}
 use Rattle.app_image.specs.Layout.{HasWords}
 use Rattle.app_image.specs.declared.settings.Config.{Config}
 use Rattle.inject_list.specs.Lists.{ListRecord, IsValidList}
-use Rattle.deferred_queue.specs.Queue.{Queued, front}
-use Rattle.isr_nesting.specs.Frames.{FrameRecord, level_of}
+use Rattle.machine_model.specs.Queue.{Queued, front}
+use Rattle.machine_model.specs.Frames.{FrameRecord, level_of}
 use Rattle.machine_model.specs.Machine.{Machine, WholeStep, Work, CallOf, UnitOf, TakeOf, effect_of, start}
 use Rattle.machine_model.specs.Rules.{next}
 
@@ -89,7 +89,7 @@ Stands served method config (Some w) k current later frames = IsInHand served co
 
 -- A valid machine.
 pub record IsValidMachine (served : Service → Bool) (method : Method) (m : Machine) : Type 0 where
-  pub kernel : IsValid m.kernel
+  pub kernel : IsLinked m.kernel
   pub registers : length m.registers ≡ 64
   pub frames : AreStacked m.config.isr_limit m.frames
   pub interrupts : All (λ i. i.level ≤ 7) m.interrupts

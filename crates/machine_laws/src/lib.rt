@@ -2,14 +2,16 @@
 //! machine. The statements stand in `specs/`.
 #![tactic(auto)]
 
+ghost use Rattle.machine_laws.specs.Memory.{CodeNeverChanges, MemoryChangesAsTold, StoresChangeTheirOwnBytes};
 ghost use Rattle.machine_laws.specs.Isolation.{TrapChangesNothing, TaskTrapKeepsAll, FrameExitKeepsAll, InterruptCodeIsIsolated, EntryIsIsolated};
 ghost use Rattle.machine_laws.specs.RuleTable.{TheChosenRuleApplies};
 ghost use Rattle.machine_laws.specs.Counting.{QuietEventsFall, EventsAreCounted, EventsOfARunAreCounted};
 ghost use Rattle.machine_laws.specs.Valid.{NextKeepsValid, StartIsValid, TimerTaskIsCurrent};
 ghost use Rattle.machine_laws.specs.Ending.{EventsLeftFall, EveryRunEnds, FewFramesStand, DeferredCodeKeepsTheTask};
-ghost use Rattle.machine_laws.specs.StepBound.{RulesAreOfEvents, RawStepsAreBounded, NothingIsAdded, RawStepsAreFew};
+ghost use Rattle.machine_laws.specs.StepBound.{RawStepsAreBounded, NothingIsAdded, RawStepsAreFew};
 ghost use Rattle.machine_laws.specs.Prompt.{EntryIsPrompt};
-ghost use Rattle.machine_laws.specs.Whole.{NextKeepsWhole, StartIsWhole, RunsAreWhole};
+ghost use Rattle.machine_laws.specs.Whole.{NextKeepsWhole, StartIsWhole};
+ghost use Rattle.machine_laws.specs.Machines.{EventsAreOfMachines, MachinesFollow, RunsAreWhole};
 
 /// An instruction that traps leaves all registers and the memory as they were, and its trap names its address.
 pub fn a_trap_changes_nothing()
@@ -86,9 +88,14 @@ pub fn deferred_interrupt_code_keeps_the_task()
     ensures { DeferredCodeKeepsTheTask }
 {}
 
-/// The rules of a run are those of its events.
-pub fn each_event_has_its_rule()
-    ensures { RulesAreOfEvents }
+/// The events of a run are those of its machines, and so are its rules.
+pub fn each_event_is_of_its_machine()
+    ensures { EventsAreOfMachines }
+{}
+
+/// The machines of a run follow one another from its start to its end, with one event between each and the next.
+pub fn the_machines_of_a_run_follow_one_another()
+    ensures { MachinesFollow }
 {}
 
 /// The raw steps of a run are bounded by its task steps, its takes and the instructions of its frames.
@@ -120,11 +127,11 @@ pub fn the_timer_task_is_current_while_processing()
 pub fn every_event_keeps_the_machine_whole()
     ensures { NextKeepsWhole }
 {
-    kern_laws::a_call_keeps_the_kernel_whole();
-    kern_laws::a_unit_keeps_the_kernel_whole();
-    kern_laws::a_finish_keeps_the_kernel_whole();
-    kern_laws::a_trap_keeps_the_kernel_whole();
-    kern_laws::the_end_of_a_callback_keeps_the_kernel_whole();
+    kern_laws::a_call_keeps_the_kernel_valid();
+    kern_laws::a_unit_keeps_the_kernel_valid();
+    kern_laws::a_finish_keeps_the_kernel_valid();
+    kern_laws::a_trap_keeps_the_kernel_valid();
+    kern_laws::the_end_of_a_callback_keeps_the_kernel_valid();
 }
 
 /// The start of a run is whole, of each valid image with a valid list.
@@ -132,13 +139,28 @@ pub fn the_start_is_whole()
     ensures { StartIsWhole }
 {}
 
-/// Every machine of a run is whole.
+/// Every machine of a run is valid, and its kernel's state whole.
 pub fn every_machine_of_a_run_is_whole()
     ensures { RunsAreWhole }
 {
-    kern_laws::a_call_keeps_the_kernel_whole();
-    kern_laws::a_unit_keeps_the_kernel_whole();
-    kern_laws::a_finish_keeps_the_kernel_whole();
-    kern_laws::a_trap_keeps_the_kernel_whole();
-    kern_laws::the_end_of_a_callback_keeps_the_kernel_whole();
+    kern_laws::a_call_keeps_the_kernel_valid();
+    kern_laws::a_unit_keeps_the_kernel_valid();
+    kern_laws::a_finish_keeps_the_kernel_valid();
+    kern_laws::a_trap_keeps_the_kernel_valid();
+    kern_laws::the_end_of_a_callback_keeps_the_kernel_valid();
 }
+
+/// No event changes the code or the settings.
+pub fn no_event_changes_the_code()
+    ensures { CodeNeverChanges }
+{}
+
+/// The memory changes only as events tell: by a store, or by the table of a call's answer.
+pub fn the_memory_changes_as_events_tell()
+    ensures { MemoryChangesAsTold }
+{}
+
+/// An event that tells a store changes the bytes of its own width, and no other byte.
+pub fn a_store_changes_its_own_bytes()
+    ensures { StoresChangeTheirOwnBytes }
+{}

@@ -14,7 +14,7 @@ use Rattle.rv32_exec.specs.Exec.{Execution, exec}
 use Rattle.rv32_exec.specs.declared.TrapKind.{TrapKind}
 use Rattle.rv32_exec.specs.declared.Stepped.{Stepped}
 use Rattle.rv32_exec.specs.declared.Stepped.TheVariants.{Next, Call, Trap, Stored}
-use Rattle.tcb_pool.specs.declared.tables.TheConstants.{LEAVE}
+use Rattle.kern_base.specs.Numbers.{leave}
 use Rattle.machine_model.specs.declared.events.What.{What}
 use Rattle.machine_model.specs.declared.events.What.TheVariants.{Quiet, Call as CallLine, St, Trap as TrapLine}
 use Rattle.machine_model.specs.Machine.{Machine, CallOf, UnitOf, registers_at, after_step}
@@ -84,7 +84,7 @@ calls served x e m =
 
 -- a callback of the timer task ends where it returns
 abbrev pub after_instruction : ℕ → ℕ → Kernel → Kernel
-after_instruction x pc k = if (x == timer_task) && (pc == LEAVE) then callback_ended k else k
+after_instruction x pc k = if (x == timer_task) && (pc == leave) then callback_ended k else k
 
 -- any other instruction
 abbrev pub runs : What → ℕ → Execution → Machine → Change

@@ -1,6 +1,6 @@
 -- How many events are still to come at most.
 use Rattle.std.specs.Prelude.{ℕ, ◌+◌, ◌-◌, ◌*◌, Bool, List, [], ◌∷◌, length, Option, Some, None, if◌then◌else◌}
-use Rattle.isr_nesting.specs.Frames.{FrameRecord}
+use Rattle.machine_model.specs.Frames.{FrameRecord}
 use Rattle.machine_model.specs.Machine.{Machine, WholeStep}
 
 -- how many micro-steps a whole step has at most

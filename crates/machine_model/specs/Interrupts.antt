@@ -1,14 +1,13 @@
 -- What interrupt code does: an interrupt enters, its frame runs one instruction, a frame leaves.
-use Rattle.std.specs.Prelude.{ℕ, ◌+◌, Bool, false, not, ◌&&◌, List, [], ◌∷◌, Option, Some, None, if◌then◌else◌, ◌==◌}
+use Rattle.std.specs.Prelude.{ℕ, ◌+◌, ◌%◌, ◌^◌, Bool, false, not, ◌&&◌, List, [], ◌∷◌, Option, Some, None, if◌then◌else◌, ◌==◌}
 use Rattle.kern_base.specs.declared.kinds.Method.{Method}
 use Rattle.kern_base.specs.declared.kinds.Method.TheVariants.{Direct, Deferred}
 use Rattle.kern_base.specs.declared.services.Service.{Service}
-use Rattle.kern_base.specs.declared.services.Service.TheVariants.{SemPost, QPost, FlagPost, TaskSemPost, TaskQPost, TimeTick, SemPend, QPend, FlagPend, MutexPend, TaskSemPend, TaskQPend, PendMulti, MutexPost, SemPendAbort, QPendAbort, FlagPendAbort, MutexPendAbort, TaskSemPendAbort, TaskQPendAbort, SemDel, QDel, FlagDel, MutexDel, TimeDly, TimeDlyResume, TimeGet, TaskSuspend, TaskResume, TaskDel, RoundRobinYield, SchedLock, SchedUnlock, TmrStart, TmrStop, TmrRemainGet, TmrStateGet, TmrDel, TaskChangePrio, Unknown}
-use Rattle.kern_base.specs.Services.{service_of, argument_count}
-use Rattle.kern_base.specs.Checks.{is_post, static_error}
+use Rattle.kern_base.specs.Services.{service_of, argument_count, interrupt_error, is_post}
+use Rattle.kern_base.specs.Checks.{static_error}
 use Rattle.kern_base.specs.Errors.{error_number}
 use Rattle.kern_base.specs.declared.errors.OsErr.{OsErr}
-use Rattle.kern_base.specs.declared.errors.OsErr.TheVariants.{InterruptQueueFull, PendIsr, PendAbortIsr, PostIsr, DeleteIsr, TimeDelayIsr, TimeDelayResumeIsr, TaskSuspendIsr, TaskResumeIsr, TaskDeleteIsr, YieldIsr, SchedLockIsr, SchedUnlockIsr, TimerIsr, CallIsr, CallUnknown, TaskChangePrioIsr}
+use Rattle.kern_base.specs.declared.errors.OsErr.TheVariants.{InterruptQueueFull, CallUnknown}
 use Rattle.kern_base.specs.declared.outcomes.Answer.{Answer}
 use Rattle.kern_base.specs.declared.outcomes.Outcome.{Outcome}
 use Rattle.kern_base.specs.declared.outcomes.Outcome.TheVariants.{Answered}
@@ -19,11 +18,11 @@ use Rattle.rv32_exec.specs.Registers.{Registers, read, written}
 use Rattle.rv32_exec.specs.Exec.{Execution, exec}
 use Rattle.rv32_exec.specs.declared.Stepped.{Stepped}
 use Rattle.rv32_exec.specs.declared.Stepped.TheVariants.{Next, Call, Trap, Stored}
-use Rattle.tcb_pool.specs.declared.tables.TheConstants.{LEAVE}
-use Rattle.deferred_queue.specs.Queue.{Queued, queued}
-use Rattle.isr_nesting.specs.Frames.{FrameRecord, entered, none_stands}
-use Rattle.isr_nesting.specs.Due.{Place, taken_at, is_step}
-use Rattle.isr_nesting.specs.Marks.{marks_after, next_instruction, post_marks}
+use Rattle.kern_base.specs.Numbers.{leave}
+use Rattle.machine_model.specs.Queue.{Queued, queued}
+use Rattle.machine_model.specs.Frames.{FrameRecord, entered, none_stands}
+use Rattle.machine_model.specs.Due.{Place, taken_at, is_step}
+use Rattle.machine_model.specs.Marks.{marks_after, next_instruction, post_marks}
 use Rattle.machine_model.specs.declared.events.How.{How}
 use Rattle.machine_model.specs.declared.events.How.TheVariants as how
 use Rattle.machine_model.specs.declared.events.What.TheVariants.{Quiet, St, Irq, Post, ICall, Exit}
@@ -50,56 +49,13 @@ without_top below m =
 abbrev pub leaves : How → FrameRecord → List FrameRecord → Machine → Change
 leaves how f below m = record { what = Exit f.vector how; machine = without_top below m }
 
--- what a call of interrupt code other than a post is refused with
-abbrev pub interrupt_error : Service → OsErr
-interrupt_error SemPost = CallUnknown
-interrupt_error QPost = CallUnknown
-interrupt_error FlagPost = CallUnknown
-interrupt_error TaskSemPost = CallUnknown
-interrupt_error TaskQPost = CallUnknown
-interrupt_error TimeTick = CallUnknown
-interrupt_error SemPend = PendIsr
-interrupt_error QPend = PendIsr
-interrupt_error FlagPend = PendIsr
-interrupt_error MutexPend = PendIsr
-interrupt_error TaskSemPend = PendIsr
-interrupt_error TaskQPend = PendIsr
-interrupt_error PendMulti = PendIsr
-interrupt_error MutexPost = PostIsr
-interrupt_error SemPendAbort = PendAbortIsr
-interrupt_error QPendAbort = PendAbortIsr
-interrupt_error FlagPendAbort = PendAbortIsr
-interrupt_error MutexPendAbort = PendAbortIsr
-interrupt_error TaskSemPendAbort = PendAbortIsr
-interrupt_error TaskQPendAbort = PendAbortIsr
-interrupt_error SemDel = DeleteIsr
-interrupt_error QDel = DeleteIsr
-interrupt_error FlagDel = DeleteIsr
-interrupt_error MutexDel = DeleteIsr
-interrupt_error TimeDly = TimeDelayIsr
-interrupt_error TimeDlyResume = TimeDelayResumeIsr
-interrupt_error TimeGet = CallIsr
-interrupt_error TaskSuspend = TaskSuspendIsr
-interrupt_error TaskResume = TaskResumeIsr
-interrupt_error TaskDel = TaskDeleteIsr
-interrupt_error RoundRobinYield = YieldIsr
-interrupt_error SchedLock = SchedLockIsr
-interrupt_error SchedUnlock = SchedUnlockIsr
-interrupt_error TmrStart = TimerIsr
-interrupt_error TmrStop = TimerIsr
-interrupt_error TmrRemainGet = TimerIsr
-interrupt_error TmrStateGet = TimerIsr
-interrupt_error TmrDel = TimerIsr
-interrupt_error TaskChangePrio = TaskChangePrioIsr
-interrupt_error (Unknown number) = CallUnknown
-
 -- a frame after one instruction, with these registers and marks
 abbrev pub ran : FrameRecord → Registers → List ℕ → FrameRecord
 ran f registers marks = record f { registers = registers; used = f.used + 1; marks = marks }
 
--- the words of a0 to a3
+-- the words of a0 to a3, each a number below 2 ^ 32
 abbrev pub argument_words : Registers → List ℕ
-argument_words regs = read regs 10 ∷ read regs 11 ∷ read regs 12 ∷ read regs 13 ∷ []
+argument_words regs = read regs 10 % 2 ^ 32 ∷ read regs 11 % 2 ^ 32 ∷ read regs 12 % 2 ^ 32 ∷ read regs 13 % 2 ^ 32 ∷ []
 
 -- the registers of a frame with an answer
 abbrev pub told : Answer → Registers → Registers
@@ -170,7 +126,7 @@ module _ (served : Service → Bool) (method : Method) where
   -- the top frame goes on, unless it has returned
   abbrev pub frame_goes_on : FrameRecord → List FrameRecord → Registers → List ℕ → Machine → Change
   frame_goes_on f below registers marks m =
-      if registers.pc == LEAVE then leaves how.Ret f below m
+      if registers.pc == leave then leaves how.Ret f below m
       else record { what = Quiet; machine = record m { frames = ran f registers marks ∷ below } }
 
   -- one instruction of the top frame, by what came of it

@@ -1,3 +1,8 @@
+pub mod Start
+pub mod Frames
+pub mod Due
+pub mod Marks
+pub mod Queue
 pub mod Words
 pub mod Text
 pub mod Machine

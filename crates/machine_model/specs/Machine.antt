@@ -3,18 +3,19 @@ use Rattle.std.specs.Prelude.{ℕ, ◌+◌, ◌==◌, false, Bool, List, [], Opt
 use Rattle.kern_base.specs.declared.services.Service.{Service}
 use Rattle.kern_base.specs.declared.requests.Request.{Request}
 use Rattle.kern_model.specs.State.{Kernel, pick}
+use Rattle.kern_model.specs.Call.{call_of}
 use Rattle.kern_model.specs.Effect.{Effect}
 use Rattle.kern_model.specs.Services.{effect, posted, unit_effect}
-use Rattle.rv32_exec.specs.Registers.{Registers}
+use Rattle.rv32_exec.specs.Registers.{Registers, no_registers}
 use Rattle.rv32_exec.specs.Memory.{filled}
-use Rattle.kernel_calls.specs.Start.{start_of}
-use Rattle.tcb_pool.specs.TaskView.{no_registers}
+use Rattle.kern_model.specs.Start.{start_state}
+use Rattle.machine_model.specs.Start.{start_registers}
 use Rattle.app_image.specs.Image.{ImageRecord}
 use Rattle.app_image.specs.declared.settings.Config.{Config}
 use Rattle.inject_list.specs.Lists.{ListRecord}
 use Rattle.inject_list.specs.declared.lists.Look.{Look}
-use Rattle.isr_nesting.specs.Frames.{Interrupt, FrameRecord, interrupts_of}
-use Rattle.deferred_queue.specs.Queue.{Queued}
+use Rattle.machine_model.specs.Frames.{Interrupt, FrameRecord, interrupts_of}
+use Rattle.machine_model.specs.Queue.{Queued}
 
 -- What a whole step does: the call of a task, which has this present priority; a unit of work of the tick task or the
 -- timer task; or the taking of a queued post.
@@ -63,7 +64,7 @@ handler_compares config saved = if config.insert == 1 then 0 else saved
 
 -- what a whole step does to the kernel
 abbrev pub effect_of : (Service → Bool) → Config → Work → Kernel → Effect
-effect_of served config (CallOf x r p) k = effect served r x p p k
+effect_of served config (CallOf x r p) k = effect served (call_of r x p p) k
 effect_of served config (UnitOf x) k = unit_effect x k
 effect_of served config (TakeOf q) k = posted served q.service q.args q.saved (handler_compares config q.saved) k
 
@@ -71,12 +72,12 @@ effect_of served config (TakeOf q) k = posted served q.service q.args q.saved (h
 -- the scheduler picks, and all interrupts and looks of the list still to come.
 abbrev pub start : ImageRecord → ListRecord → Machine
 start image list =
-    let k = start_of image in
+    let k = start_state image in
     record {
-      kernel = k.state;
-      registers = k.registers;
+      kernel = k;
+      registers = start_registers image;
       memory = filled image.ram;
-      current = pick k.state;
+      current = pick k;
       frames = [];
       later = [];
       in_hand = None;

@@ -6,10 +6,10 @@ use Rattle.kern_base.specs.declared.kinds.Method.TheVariants.{Direct, Deferred}
 use Rattle.kern_base.specs.declared.services.Service.{Service}
 use Rattle.kern_model.specs.State.{task_at}
 use Rattle.inject_list.specs.declared.lists.Look.{Look}
-use Rattle.deferred_queue.specs.Queue.{Queued, front}
-use Rattle.isr_nesting.specs.Frames.{FrameRecord}
-use Rattle.isr_nesting.specs.Due.{Place, due}
-use Rattle.isr_nesting.specs.Marks.{reads_result}
+use Rattle.machine_model.specs.Queue.{Queued, front}
+use Rattle.machine_model.specs.Frames.{FrameRecord}
+use Rattle.machine_model.specs.Due.{Place, due}
+use Rattle.machine_model.specs.Marks.{reads_result}
 use Rattle.machine_model.specs.declared.events.Event.{Event}
 use Rattle.machine_model.specs.declared.events.How.TheVariants as how
 use Rattle.machine_model.specs.declared.events.What.TheVariants.{Quiet, Start}

@@ -28,9 +28,18 @@ module _ (served : Service → Bool) (method : Method) where
             record { events = e.0 ∷ rest.events; last = rest.last }
       ]
 
+  -- the machines before each of these events
+  abbrev pub machines_on : ℕ → ℕ → Machine → List Machine
+  machines_on n zero m = []
+  machines_on n (suc more) m = elim (m.t == n) [ true ↦ [] | false ↦ m ∷ machines_on n more (next served method m).1 ]
+
   -- the run of an image and its interrupts to n task steps
   abbrev pub run : ImageRecord → ListRecord → ℕ → Run
   run image list n = let m = start image list in run_on n (events_left n m) m
+
+  -- the machines of that run, before each of its events
+  abbrev pub machines : ImageRecord → ListRecord → ℕ → List Machine
+  machines image list n = let m = start image list in machines_on n (events_left n m) m
 
 -- what a run prints: each event, and then the last line
 abbrev pub text : ImageRecord → Run → List ℕ

@@ -1,7 +1,7 @@
 -- When the current task changes.
 use Rattle.std.specs.Prelude.{ℕ, Bool, true, false, ◌&&◌, List, [], ◌∷◌, Option, Some, None, if◌then◌else◌, ◌==◌}
 use Rattle.kern_model.specs.State.{Kernel, pick}
-use Rattle.deferred_queue.specs.Queue.{Queued}
+use Rattle.machine_model.specs.Queue.{Queued}
 use Rattle.machine_model.specs.Machine.{Machine, WholeStep}
 
 -- whether no post waits

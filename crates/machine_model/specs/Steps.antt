@@ -10,8 +10,8 @@ use Rattle.kern_model.specs.State.{Kernel, Task, Content, Timed, object_at, is_r
 use Rattle.kern_model.specs.Services.{cost}
 use Rattle.rv32_exec.specs.Registers.{Registers}
 use Rattle.app_image.specs.declared.settings.Config.{Config}
-use Rattle.tcb_pool.specs.declared.tables.TheConstants.{LEAVE}
-use Rattle.deferred_queue.specs.Queue.{Queued, without_front}
+use Rattle.kern_base.specs.Numbers.{leave}
+use Rattle.machine_model.specs.Queue.{Queued, without_front}
 use Rattle.machine_model.specs.declared.events.What.{What}
 use Rattle.machine_model.specs.declared.events.What.TheVariants.{Quiet, Wait, Gone, Tick, Tmr, Fire, Take}
 use Rattle.machine_model.specs.Machine.{Machine, Work, CallOf, UnitOf, TakeOf, WholeStep, effect_of, registers_at, after_step}
@@ -38,7 +38,7 @@ call_ends x s (outcome.Quiet end) k m = record { what = Quiet; machine = settled
 -- settings, LEAVE to return to, and else 0
 abbrev pub callback_registers : Config → ℕ → ℕ → ℕ → Registers
 callback_registers config o address argument =
-    record { pc = address; x = 0 ∷ LEAVE ∷ config.tmr_sp ∷ replicate 7 0 ++ (o ∷ argument ∷ []) ++ replicate 20 0 }
+    record { pc = address; x = 0 ∷ leave ∷ config.tmr_sp ∷ replicate 7 0 ++ (o ∷ argument ∷ []) ++ replicate 20 0 }
 
 -- the registers of all tasks once the timer with this callback has fired
 abbrev pub with_callback : Config → ℕ → Option ℕ → ℕ → List Registers → List Registers

@@ -1,27 +1,29 @@
 -- A post reads no more words than its service has arguments.
-use Rattle.std.specs.Prelude.{slice_index, if◌then◌else◌}
+use Rattle.std.specs.Prelude.{◌%◌, ◌^◌, slice_index, if◌then◌else◌}
 use Rattle.std.proofs.Common.{◌≡◌, ℕ, List, [], ◌∷◌, refl, ap, ◌∙◌, Bool, true, Option, Some, None}
 use Rattle.std.proofs.lemmas.Bool.{false≢true}
-use Rattle.kern_base.specs.Checks.{is_post, static_error}
+use Rattle.kern_base.specs.Services.{is_post}
+use Rattle.kern_base.specs.Checks.{static_error}
 use Rattle.kern_base.specs.Tables.{KindTable}
 use Rattle.kern_base.specs.declared.errors.OsErr.{OsErr}
 use Rattle.kern_base.specs.declared.errors.OsErr.TheVariants.{CallUnknown}
 use Rattle.kern_base.specs.declared.requests.Request.{Request}
 use Rattle.kern_base.specs.declared.services.Service.{Service}
 use Rattle.kern_base.specs.declared.services.Service.TheVariants.{SemPost, QPost, FlagPost, TaskSemPost, TaskQPost, TimeTick}
+use Rattle.kern_model.specs.Call.{call_of}
 use Rattle.kern_model.specs.State.{Kernel, Content, Count, Bits}
 use Rattle.kern_model.specs.Checks.{call_error}
 use Rattle.kern_model.specs.Effect.{Effect, refused}
 use Rattle.kern_model.specs.Semaphores.{sem_post}
 use Rattle.kern_model.specs.Flags.{flag_post}
-use Rattle.kern_model.specs.Services.{posted, post_request, row_of, after_checks, content_for}
+use Rattle.kern_model.specs.Services.{posted, post_request, perform, after_checks, content_for}
 use Rattle.rv32_exec.specs.Registers.{Registers, read}
 use Rattle.machine_model.specs.Answers.{arguments}
 use Rattle.machine_model.specs.Interrupts.{argument_words}
 
 module _ (served : Service → Bool) (p h : ℕ) (k : Kernel) where
   -- requests that fail the same check and do the same after it
-  same-checks : (e : Option OsErr) (r q : Request) → row_of r.service r 63 p h k ≡ row_of q.service q 63 p h k → after_checks e r 63 p h k ≡ after_checks e q 63 p h k
+  same-checks : (e : Option OsErr) (r q : Request) → perform r.service (call_of r 63 p h) k ≡ perform q.service (call_of q 63 p h) k → after_checks e (call_of r 63 p h) k ≡ after_checks e (call_of q 63 p h) k
   same-checks (Some err) r q e = refl
   same-checks None r q e = e
 
@@ -59,17 +61,21 @@ module _ (served : Service → Bool) (p h : ℕ) (k : Kernel) where
       ap (λ (e : Effect). if served TimeTick then e else refused k CallUnknown) (same-checks (call_error r 63 k) r q refl)
 
   module _ (a b : Registers) where
+    -- a register's word
+    abbrev word_of : Registers → ℕ → ℕ
+    word_of regs r = read regs r % 2 ^ 32
+
     pub posted-same : (s : Service) → is_post s ≡ true → arguments s (argument_words a) ≡ arguments s (argument_words b) → posted served s (argument_words a) p h k ≡ posted served s (argument_words b) p h k
     posted-same SemPost i e =
-        behind-sem (read a 10) (read a 11) (read a 12 ∷ read a 13 ∷ []) (read b 12 ∷ read b 13 ∷ [])
-        ∙ ap (λ (l : List ℕ). posted served SemPost (slice_index l 0 ∷ slice_index l 1 ∷ read b 12 ∷ read b 13 ∷ []) p h k) e
+        behind-sem (word_of a 10) (word_of a 11) (word_of a 12 ∷ word_of a 13 ∷ []) (word_of b 12 ∷ word_of b 13 ∷ [])
+        ∙ ap (λ (l : List ℕ). posted served SemPost (slice_index l 0 ∷ slice_index l 1 ∷ word_of b 12 ∷ word_of b 13 ∷ []) p h k) e
     posted-same QPost i e = ap (λ (l : List ℕ). posted served QPost l p h k) e
     posted-same FlagPost i e =
-        behind-flag (read a 10) (read a 11) (read a 12) (read a 13 ∷ []) (read b 13 ∷ [])
-        ∙ ap (λ (l : List ℕ). posted served FlagPost (slice_index l 0 ∷ slice_index l 1 ∷ slice_index l 2 ∷ read b 13 ∷ []) p h k) e
+        behind-flag (word_of a 10) (word_of a 11) (word_of a 12) (word_of a 13 ∷ []) (word_of b 13 ∷ [])
+        ∙ ap (λ (l : List ℕ). posted served FlagPost (slice_index l 0 ∷ slice_index l 1 ∷ slice_index l 2 ∷ word_of b 13 ∷ []) p h k) e
     posted-same TaskSemPost i e =
-        behind-task_sem (read a 10) (read a 11) (read a 12 ∷ read a 13 ∷ []) (read b 12 ∷ read b 13 ∷ [])
-        ∙ ap (λ (l : List ℕ). posted served TaskSemPost (slice_index l 0 ∷ slice_index l 1 ∷ read b 12 ∷ read b 13 ∷ []) p h k) e
+        behind-task_sem (word_of a 10) (word_of a 11) (word_of a 12 ∷ word_of a 13 ∷ []) (word_of b 12 ∷ word_of b 13 ∷ [])
+        ∙ ap (λ (l : List ℕ). posted served TaskSemPost (slice_index l 0 ∷ slice_index l 1 ∷ word_of b 12 ∷ word_of b 13 ∷ []) p h k) e
     posted-same TaskQPost i e = ap (λ (l : List ℕ). posted served TaskQPost l p h k) e
     posted-same TimeTick i e = behind-tick (argument_words a) (argument_words b)
     posted-same _ i e = absurd (false≢true i)

@@ -1,23 +1,27 @@
 -- A call that reads no marked register is the same call.
-use Rattle.std.specs.Prelude.{take, map, ◌++◌, ◌-◌, replicate, if◌then◌else◌}
+use Rattle.std.specs.Prelude.{◌%◌, ◌^◌, take, map, ◌++◌, ◌-◌, replicate, if◌then◌else◌}
 use Rattle.std.proofs.Common.{◌≡◌, ℕ, zero, suc, List, [], ◌∷◌, refl, ap, ◌∙◌, subst, Bool, true, false}
 use Rattle.kern_base.specs.declared.services.Service.{Service}
 use Rattle.kern_base.specs.Services.{service_of, argument_count}
 use Rattle.rv32_exec.specs.Registers.{Registers, read}
-use Rattle.isr_nesting.specs.Marks.{is_marked, call_reads}
+use Rattle.machine_model.specs.Marks.{is_marked, call_reads}
 use Rattle.machine_model.specs.Answers.{arguments}
 use Rattle.machine_model.specs.Interrupts.{argument_words}
 use Rattle.method_law.specs.Alike.{AgreeBut, SameCall}
 use Rattle.method_law.proofs.MarkLaws.{first-unmarked, rest-unmarked}
 
+-- a register's word
+abbrev word_of : Registers → ℕ → ℕ
+word_of regs r = read regs r % 2 ^ 32
+
 module _ (marks : List ℕ) (a b : Registers) (same : AgreeBut marks a b) where
   -- the first n of these registers, where none of them has a mark
-  same-words : (n : ℕ) (rs : List ℕ) → is_marked marks (take n rs) ≡ false → take n (map (read a) rs) ≡ take n (map (read b) rs)
+  same-words : (n : ℕ) (rs : List ℕ) → is_marked marks (take n rs) ≡ false → take n (map (word_of a) rs) ≡ take n (map (word_of b) rs)
   same-words zero rs h = refl
   same-words (suc n) [] h = refl
   same-words (suc n) (r ∷ rs) h =
-      ap (λ v. v ∷ take n (map (read a) rs)) (same.unmarked r (first-unmarked marks r (take n rs) h))
-      ∙ ap (λ vs. read b r ∷ vs) (same-words n rs (rest-unmarked marks r (take n rs) h))
+      ap (λ v. v % 2 ^ 32 ∷ take n (map (word_of a) rs)) (same.unmarked r (first-unmarked marks r (take n rs) h))
+      ∙ ap (λ vs. word_of b r ∷ vs) (same-words n rs (rest-unmarked marks r (take n rs) h))
 
   -- the arguments of a service that is served
   same-arguments : (served : Service → Bool) (s : Service) → is_marked marks (call_reads served s) ≡ false → served s ≡ true → arguments s (argument_words a) ≡ arguments s (argument_words b)

@@ -3,16 +3,16 @@ use Rattle.std.specs.Prelude.{◌+◌, ◌==◌, not, ◌&&◌}
 use Rattle.std.proofs.Common.{◌≡◌, ℕ, ◌≤◌, List, [], refl, ap, ◌∙◌, subst, Bool, true, false, Option, Some, None, arith}
 use Rattle.std.proofs.lemmas.Bool.{eqb-true, not-false}
 use Rattle.std.proofs.lemmas.List.Elements.{All-nil}
-use Rattle.kern_base.specs.Checks.{is_post}
+use Rattle.kern_base.specs.Services.{is_post}
 use Rattle.kern_base.specs.declared.kinds.Method.TheVariants.{Direct, Deferred}
 use Rattle.kern_base.specs.declared.services.Service.{Service}
 use Rattle.kern_model.specs.State.{task_at}
 use Rattle.rv32_exec.specs.Registers.{Registers}
 use Rattle.app_image.specs.Image.{ImageRecord}
 use Rattle.inject_list.specs.declared.lists.Look.{Look}
-use Rattle.deferred_queue.specs.Queue.{Queued}
-use Rattle.isr_nesting.specs.Frames.{entered}
-use Rattle.isr_nesting.specs.Due.{Place, is_step, due}
+use Rattle.machine_model.specs.Queue.{Queued}
+use Rattle.machine_model.specs.Frames.{entered}
+use Rattle.machine_model.specs.Due.{Place, is_step, due}
 use Rattle.machine_model.specs.Machine.{Machine, WholeStep}
 use Rattle.machine_model.specs.Looks.{look_at}
 use Rattle.machine_model.specs.Rules.{Begins, Enters, MicroStep, TaskActs, rule, rule_of_post, rule_of_due, rule_of_look, next}

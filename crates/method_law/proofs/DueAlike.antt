@@ -4,8 +4,8 @@ use Rattle.std.proofs.Common.{◌≡◌, ℕ, ◌+◌, ◌≤◌, ◌<◌, List,
 use Rattle.std.proofs.lemmas.Option.{none-some}
 use Rattle.std.proofs.lemmas.Bool.{false≢true, ltb-true, ltb-false, lt-ltb, cases_Bool}
 use Rattle.inject_list.specs.declared.lists.Moment.{Moment}
-use Rattle.isr_nesting.specs.Frames.{Interrupt, FrameRecord}
-use Rattle.isr_nesting.specs.Due.{Place, is_step, lets_in, due_from, due, highest_from, highest}
+use Rattle.machine_model.specs.Frames.{Interrupt, FrameRecord}
+use Rattle.machine_model.specs.Due.{Place, is_step, lets_in, due_from, due, highest_from, highest}
 
 -- whether there is an interrupt whose moment is in raw steps
 abbrev steps_in : Option Place → Bool

@@ -5,8 +5,8 @@ use Rattle.std.proofs.lemmas.Bool.{false≢true, and_parts, and_from, leb-true, 
 use Rattle.rv32_exec.specs.Registers.{Registers}
 use Rattle.inject_list.specs.declared.lists.Moment.{Moment}
 use Rattle.inject_list.specs.declared.lists.Moment.TheVariants.{Task, Step}
-use Rattle.isr_nesting.specs.Frames.{Interrupt, FrameRecord}
-use Rattle.isr_nesting.specs.Due.{Place, is_step, lets_in, due_from, due, highest}
+use Rattle.machine_model.specs.Frames.{Interrupt, FrameRecord}
+use Rattle.machine_model.specs.Due.{Place, is_step, lets_in, due_from, due, highest}
 use Rattle.method_law.proofs.DueAlike.{due-alike}
 
 -- no interrupt that is due enters by raw steps

@@ -5,9 +5,9 @@ use Rattle.kern_base.specs.declared.kinds.Method.TheVariants.{Deferred}
 use Rattle.kern_base.specs.declared.services.Service.{Service}
 use Rattle.app_image.specs.Image.{ImageRecord}
 use Rattle.std.proofs.lemmas.List.Elements.{All-head}
-use Rattle.kern_base.specs.Checks.{is_post}
-use Rattle.kern_model.specs.Valid.{IsValid}
-use Rattle.deferred_queue.specs.Queue.{Queued}
+use Rattle.kern_base.specs.Services.{is_post}
+use Rattle.kern_model.specs.Valid.{IsLinked}
+use Rattle.machine_model.specs.Queue.{Queued}
 use Rattle.method_law.proofs.TakeSame.{take-same}
 use Rattle.machine_model.specs.Machine.{Machine}
 use Rattle.machine_model.specs.Looks.{look_at}
@@ -20,7 +20,7 @@ use Rattle.method_law.proofs.TakesGoes.{goes-waits, goes-takes}
 
 pub events-go : (served : Service → Bool) (image : ImageRecord) (n : ℕ) (d m : Machine) → Related served n d m → (d.t == n) ≡ false
     → look_at d.s d.looks ≡ None → look_at m.s m.looks ≡ None → BreaksNone (next served Deferred d).0
-    → IsValid d.kernel → Goes served image n d m
+    → IsLinked d.kernel → Goes served image n d m
 events-go served image n d m (calm x begun hand s looks none behind) short unseen unseen2 breaks valid =
     inr (goes-calm served image n x s looks behind short unseen unseen2 begun hand none breaks)
 events-go served image n d m (frame x f registers later s looks agrees opens behind) short unseen unseen2 breaks valid =

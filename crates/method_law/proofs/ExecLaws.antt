@@ -16,7 +16,8 @@ use Rattle.rv32_exec.specs.declared.Stepped.TheVariants.{Next, Call, Trap, Store
 use Rattle.rv32_exec.specs.declared.TrapKind.{TrapKind}
 use Rattle.rv32_exec.specs.declared.TrapKind.TheVariants.{Illegal, Break, Jump, Fetch, Load, Store}
 use Rattle.kern_model.specs.State.{without}
-use Rattle.isr_nesting.specs.Marks.{is_marked, reads_of, instruction_reads, marks_after, next_instruction, instruction_of, writes}
+use Rattle.machine_model.specs.Marks.{is_marked, reads_of, instruction_reads, marks_after, next_instruction, instruction_of}
+use Rattle.rv32_isa.specs.Operands.{writes}
 use Rattle.method_law.specs.Alike.{AgreeBut, SameCall, RunsAlike, is_call}
 use Rattle.method_law.proofs.CallLaws.{same-call}
 use Rattle.method_law.proofs.Choices.{both}

@@ -3,8 +3,8 @@ use Rattle.std.specs.Prelude.{◌+◌, ◌==◌, ◌++◌, ◌&&◌, if◌then�
 use Rattle.std.proofs.Common.{◌≡◌, ℕ, ◌≤◌, List, [], ◌∷◌, refl, sym, ap, ◌∙◌, subst, Bool, true, false, Option, Some, None, arith}
 use Rattle.std.proofs.lemmas.Bool.{false≢true}
 use Rattle.std.proofs.lemmas.List.Elements.{All-append, All-cons, All-nil}
-use Rattle.kern_base.specs.Checks.{is_post, static_error}
-use Rattle.kern_base.specs.Services.{service_of, argument_count}
+use Rattle.kern_base.specs.Services.{is_post, service_of, argument_count, interrupt_error}
+use Rattle.kern_base.specs.Checks.{static_error}
 use Rattle.kern_base.specs.declared.errors.OsErr.{OsErr}
 use Rattle.kern_base.specs.declared.errors.OsErr.TheVariants.{CallUnknown}
 use Rattle.kern_base.specs.declared.kinds.Method.TheVariants.{Direct, Deferred}
@@ -16,12 +16,13 @@ use Rattle.rv32_exec.specs.Registers.{Registers, read}
 use Rattle.rv32_exec.specs.Exec.{Execution, exec, fetched}
 use Rattle.rv32_exec.specs.declared.Stepped.{Stepped}
 use Rattle.rv32_exec.specs.declared.Stepped.TheVariants.{Next, Call, Trap, Stored}
-use Rattle.tcb_pool.specs.declared.tables.TheConstants.{LEAVE}
+use Rattle.kern_base.specs.Numbers.{leave}
 use Rattle.app_image.specs.Image.{ImageRecord}
 use Rattle.inject_list.specs.declared.lists.Look.{Look}
-use Rattle.deferred_queue.specs.Queue.{Queued}
-use Rattle.isr_nesting.specs.Frames.{FrameRecord}
-use Rattle.isr_nesting.specs.Marks.{post_marks, marks_after, next_instruction, instruction_of, reads_result, writes}
+use Rattle.machine_model.specs.Queue.{Queued}
+use Rattle.machine_model.specs.Frames.{FrameRecord}
+use Rattle.machine_model.specs.Marks.{post_marks, marks_after, next_instruction, instruction_of, reads_result}
+use Rattle.rv32_isa.specs.Operands.{writes}
 use Rattle.rv32_isa.specs.declared.Instr.{Instr}
 use Rattle.method_law.proofs.ExecLaws.{like-exec}
 use Rattle.machine_model.specs.declared.events.How.{How}
@@ -30,7 +31,7 @@ use Rattle.machine_model.specs.declared.events.What.TheVariants.{Quiet, Post, Ex
 use Rattle.machine_model.specs.Machine.{Machine}
 use Rattle.machine_model.specs.Answers.{Change, arguments}
 use Rattle.machine_model.specs.Settling.{settled_task}
-use Rattle.machine_model.specs.Interrupts.{leaves, ran, argument_words, told, interrupt_error, posts_by, frame_posts, frame_refused, frame_calls, frame_did, frame_runs, checked_post, queues, answered_frame, Posting}
+use Rattle.machine_model.specs.Interrupts.{leaves, ran, argument_words, told, posts_by, frame_posts, frame_refused, frame_calls, frame_did, frame_runs, checked_post, queues, answered_frame, Posting}
 use Rattle.machine_model.specs.Premises.{loses_post}
 use Rattle.machine_model.specs.Rules.{FrameRuns, marks, switch_of}
 use Rattle.machine_model.specs.Text.{event_history, history_line, history_words}
@@ -220,7 +221,7 @@ module _ (served : Service → Bool) (image : ImageRecord) (n : ℕ) (d : Machin
       let same = agree refl in
       let on : Change = record { what = Quiet; machine = record first { frames = ran f e.registers marks ∷ [] } } in
       let on2 : Change = record { what = Quiet; machine = record second { frames = ran other_frame e2.registers marks ∷ [] } } in
-      both (Fine 1) (e.registers.pc == LEAVE) (e2.registers.pc == LEAVE) (leaves how.Ret f [] first) on (leaves how.Ret other_frame [] second) on2 (ap (λ pc. pc == LEAVE) same.pc)
+      both (Fine 1) (e.registers.pc == leave) (e2.registers.pc == leave) (leaves how.Ret f [] first) on (leaves how.Ret other_frame [] second) on2 (ap (λ pc. pc == leave) same.pc)
       (by-leaving 1 how.Ret)
       (by-twins 1 on on2 refl (stays e.registers e2.registers marks (f.used + 1) d.memory later after_posts same within posts refl))
   by-did (Stored addr width value) e e2 marks agree call memory within =

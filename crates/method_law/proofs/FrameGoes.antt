@@ -6,9 +6,9 @@ use Rattle.kern_base.specs.declared.services.Service.{Service}
 use Rattle.rv32_exec.specs.Registers.{Registers}
 use Rattle.app_image.specs.Image.{ImageRecord}
 use Rattle.inject_list.specs.declared.lists.Look.{Look}
-use Rattle.deferred_queue.specs.Queue.{Queued}
-use Rattle.isr_nesting.specs.Frames.{FrameRecord}
-use Rattle.isr_nesting.specs.Due.{due}
+use Rattle.machine_model.specs.Queue.{Queued}
+use Rattle.machine_model.specs.Frames.{FrameRecord}
+use Rattle.machine_model.specs.Due.{due}
 use Rattle.machine_model.specs.declared.events.How.TheVariants as how
 use Rattle.machine_model.specs.Machine.{Machine}
 use Rattle.machine_model.specs.Looks.{look_at}

@@ -4,7 +4,7 @@ use Rattle.std.proofs.Common.{◌≡◌, ℕ, List, [], ◌∷◌, length, refl,
 use Rattle.std.proofs.Math.Seq.{map-set_same}
 use Rattle.std.proofs.lemmas.Bool.{false≢true}
 use Rattle.std.proofs.lemmas.List.Elements.{All-head, All-tail}
-use Rattle.kern_base.specs.Checks.{is_post}
+use Rattle.kern_base.specs.Services.{is_post}
 use Rattle.kern_base.specs.declared.services.Service.{Service}
 use Rattle.kern_base.specs.declared.services.Service.TheVariants.{SemPost, QPost, FlagPost, TaskSemPost, TaskQPost, TimeTick}
 use Rattle.kern_base.specs.declared.requests.Request.{Request}
@@ -13,6 +13,7 @@ use Rattle.kern_base.specs.declared.errors.OsErr.TheVariants.{SemOverflow, CallU
 use Rattle.kern_base.specs.declared.outcomes.Finished.{Finished}
 use Rattle.kern_base.specs.declared.outcomes.Waiting.{Waiting}
 use Rattle.kern_base.specs.declared.outcomes.Waiting.TheVariants.{TaskSem, TaskQ, Signal}
+use Rattle.kern_model.specs.Call.{Call, call_of}
 use Rattle.kern_model.specs.State.{Kernel, Task, Object, Content, Count, Messages, Bits, no_object, object_at, list_at, task_at, with_content, with_task, tick_task, timer_task, idle_task, kind_of, kinds_of}
 use Rattle.kern_model.specs.FlagBits.{has_bit, ready_bits, bits_after}
 use Rattle.kern_model.specs.Effect.{Effect, wakes, wakes_all, refused, done, fine, message, posted_result, result_of, chosen}
@@ -23,9 +24,9 @@ use Rattle.kern_model.specs.Flags.{flag_wakes, flag_wakes_all, flag_post}
 use Rattle.kern_model.specs.TaskObjects.{task_counts_up, task_sem_post_to, task_store, task_q_post_to}
 use Rattle.kern_model.specs.RoundRobin.{first_in, rotates, spends, round_robin}
 use Rattle.kern_model.specs.Time.{signalled, signals_tick, signals_timer, time_tick}
-use Rattle.kern_model.specs.Services.{after_checks, row_of, content_for, posted, post_request}
-use Rattle.kern_model.proofs.LeadLaws.{choice}
-use Rattle.deferred_queue.specs.Queue.{Queued}
+use Rattle.kern_model.specs.Services.{after_checks, perform, content_for, posted, post_request}
+use Rattle.kern_model.proofs.Lemmas.{choice}
+use Rattle.machine_model.specs.Queue.{Queued}
 use Rattle.method_law.specs.Relation.{performed, all_performed}
 
 -- the kinds are as they were
@@ -145,23 +146,23 @@ kept-time_tick c h k =
 
 -- each of the six posts
 
-kept-row_of : (s : Service) (r : Request) (x c h : ℕ) (k : Kernel) → is_post s ≡ true → KeptBy k (row_of s r x c h k)
-kept-row_of SemPost r x c h k p = kept-sem_post (content_for r k) r h k refl
-kept-row_of QPost r x c h k p = kept-q_post (content_for r k) r h k refl
-kept-row_of FlagPost r x c h k p = kept-flag_post (content_for r k) r h k refl
-kept-row_of TaskSemPost r x c h k p = let y = named_task r x in kept-task_sem_post_to (task_at k y).waiting y h k
-kept-row_of TaskQPost r x c h k p = let y = named_task r x in kept-task_q_post_to (task_at k y).waiting r y h k
-kept-row_of TimeTick r x c h k p = kept-time_tick c h k
-kept-row_of _ r x c h k p = absurd (false≢true p)
+kept-perform : (s : Service) (call : Call) (k : Kernel) → is_post s ≡ true → KeptBy k (perform s call k)
+kept-perform SemPost call k p = kept-sem_post (content_for call.request k) call.request call.compared k refl
+kept-perform QPost call k p = kept-q_post (content_for call.request k) call.request call.compared k refl
+kept-perform FlagPost call k p = kept-flag_post (content_for call.request k) call.request call.compared k refl
+kept-perform TaskSemPost call k p = let y = named_task call.request call.caller in kept-task_sem_post_to (task_at k y).waiting y call.compared k
+kept-perform TaskQPost call k p = let y = named_task call.request call.caller in kept-task_q_post_to (task_at k y).waiting call.request y call.compared k
+kept-perform TimeTick call k p = kept-time_tick call.interrupted call.compared k
+kept-perform _ call k p = absurd (false≢true p)
 
-kept-after_checks : (e : Option OsErr) (r : Request) (x c h : ℕ) (k : Kernel) → is_post r.service ≡ true → KeptBy k (after_checks e r x c h k)
-kept-after_checks (Some err) r x c h k p = refl
-kept-after_checks None r x c h k p = kept-row_of r.service r x c h k p
+kept-after_checks : (e : Option OsErr) (call : Call) (k : Kernel) → is_post call.request.service ≡ true → KeptBy k (after_checks e call k)
+kept-after_checks (Some err) call k p = refl
+kept-after_checks None call k p = kept-perform call.request.service call k p
 
 pub kinds-posted : (served : Service → Bool) (s : Service) (args : List ℕ) (c h : ℕ) (k : Kernel) → is_post s ≡ true → kinds_of (posted served s args c h k).kernel ≡ kinds_of k
 kinds-posted served s args c h k p =
     let r = post_request s args in
-    choice (KeptBy k) (served s) (after_checks (call_error r 63 k) r 63 c h k) (refused k CallUnknown) (kept-after_checks (call_error r 63 k) r 63 c h k p) refl
+    choice (KeptBy k) (served s) (after_checks (call_error r 63 k) (call_of r 63 c h) k) (refused k CallUnknown) (kept-after_checks (call_error r 63 k) (call_of r 63 c h) k p) refl
 
 -- queued posts
 

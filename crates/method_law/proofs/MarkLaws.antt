@@ -6,7 +6,7 @@ use Rattle.std.proofs.lemmas.Bool.{or_parts, or_from, eqb-true, ne_eqb, cases_eq
 use Rattle.std.proofs.lemmas.List.{length-set, get_or-set_same, get_or-set_other}
 use Rattle.kern_model.specs.State.{without}
 use Rattle.rv32_exec.specs.Registers.{Registers, read, written}
-use Rattle.isr_nesting.specs.Marks.{is_marked}
+use Rattle.machine_model.specs.Marks.{is_marked}
 use Rattle.method_law.specs.Alike.{has_mark, AgreeBut}
 
 -- the first of these registers has no mark, nor have the others

@@ -2,12 +2,12 @@
 use Rattle.std.specs.Prelude.{Bool, true, All, ◌++◌}
 use Rattle.std.proofs.lemmas.List.Elements.{All-head, All-tail}
 use Rattle.std.proofs.Common.{◌≡◌, List, [], ◌∷◌, refl, ◌∙◌}
-use Rattle.kern_base.specs.Checks.{is_post}
+use Rattle.kern_base.specs.Services.{is_post}
 use Rattle.kern_base.specs.declared.services.Service.{Service}
 use Rattle.kern_model.specs.State.{Kernel}
-use Rattle.kern_model.proofs.PostLaws.{keeps-posted}
-use Rattle.kern_laws.specs.Laws.{PostStays}
-use Rattle.deferred_queue.specs.Queue.{Queued}
+use Rattle.kern_model.proofs.Lemmas.{keeps-posted}
+use Rattle.kern_model.specs.Posts.{PostKeeps}
+use Rattle.machine_model.specs.Queue.{Queued}
 use Rattle.method_law.specs.Relation.{performed, all_performed}
 
 -- a post behind others is performed after them
@@ -16,7 +16,7 @@ performed-last served q [] k = refl
 performed-last served q (p ∷ later) k = performed-last served q later (performed served p k)
 
 -- nothing changed
-stays-same : (k : Kernel) → PostStays k k
+stays-same : (k : Kernel) → PostKeeps k k
 stays-same k =
     record {
       lock = refl;
@@ -32,7 +32,7 @@ stays-same k =
     }
 
 -- one change after another
-stays-after : (k j i : Kernel) → PostStays k j → PostStays j i → PostStays k i
+stays-after : (k j i : Kernel) → PostKeeps k j → PostKeeps j i → PostKeeps k i
 stays-after k j i first second =
     record {
       lock = second.lock ∙ first.lock;
@@ -48,7 +48,7 @@ stays-after k j i first second =
     }
 
 -- one queued post
-stays-performed : (served : Service → Bool) (q : Queued) (k : Kernel) → is_post q.service ≡ true → PostStays k (performed served q k)
+stays-performed : (served : Service → Bool) (q : Queued) (k : Kernel) → is_post q.service ≡ true → PostKeeps k (performed served q k)
 stays-performed served q k p =
     let h = keeps-posted served q.service q.args q.saved q.saved k p in
     record {
@@ -65,7 +65,7 @@ stays-performed served q k p =
     }
 
 -- all of them
-pub stays-all : (served : Service → Bool) (later : List Queued) (k : Kernel) → All (λ q. is_post q.service ≡ true) later → PostStays k (all_performed served later k)
+pub stays-all : (served : Service → Bool) (later : List Queued) (k : Kernel) → All (λ q. is_post q.service ≡ true) later → PostKeeps k (all_performed served later k)
 stays-all served [] k posts = stays-same k
 stays-all served (q ∷ later) k posts =
     let j = performed served q k in

@@ -14,8 +14,9 @@ use Rattle.kern_model.specs.Semaphores.{sem_post_to, sem_post}
 use Rattle.kern_model.specs.Queues.{q_post_to, q_post}
 use Rattle.kern_model.specs.Flags.{flag_wakes_all, flag_post}
 use Rattle.kern_model.specs.TaskObjects.{task_sem_post_to, task_q_post_to}
-use Rattle.kern_model.specs.Valid.{IsValid}
-use Rattle.kern_model.proofs.PostLaws.{PostKeeps, keeps-refl, keeps-with_content}
+use Rattle.kern_model.specs.Valid.{IsLinked}
+use Rattle.kern_model.specs.Posts.{PostKeeps}
+use Rattle.kern_model.proofs.Lemmas.{keeps-refl, keeps-with_content}
 use Rattle.machine_model.specs.Steps.{some_readied}
 use Rattle.method_law.proofs.WakeSame.{waits_not, none-readied, joins-alike, same-wakes_all, same-flag_wakes_all}
 
@@ -30,7 +31,7 @@ alone-stands : (b : Bool) → 0 < (if b then 1 else 0) + 0 → b ≡ true
 alone-stands true h = refl
 alone-stands false h = absurd (omega (arith, h))
 
-module _ (saved : ℕ) (k : Kernel) (v : IsValid k) where
+module _ (saved : ℕ) (k : Kernel) (v : IsLinked k) where
   -- a change by the compared priority, where the one with the handler's keeps what posts keep and readies no task of the saved one
   abbrev pub Same : (ℕ → Kernel) → Type 0
   Same e = length (e 0).tasks ≡ length k.tasks → PostKeeps k (e 0) → some_readied saved k.tasks (e 0).tasks ≡ false → e 0 ≡ e saved
@@ -39,7 +40,7 @@ module _ (saved : ℕ) (k : Kernel) (v : IsValid k) where
   pend-waits : (o y : ℕ) → 0 < count_of y (list_at k.pend o) → waits_not k y ≡ false
   pend-waits o y h =
       elim (cases_Bool (waits_not k y)) as (λ _. waits_not k y ≡ false) [
-        | inl e ↦ (let none : count_of y (list_at k.pend o) ≡ 0 = v.waiters o y ∙ ap (λ b. if b then 0 else count_of o (task_at k y).objects) e in absurd (omega (arith, h, none)))
+        | inl e ↦ (let none : count_of y (list_at k.pend o) ≡ 0 = v.lists.waiters o y ∙ ap (λ b. if b then 0 else count_of o (task_at k y).objects) e in absurd (omega (arith, h, none)))
         | inr e ↦ e
       ]
 

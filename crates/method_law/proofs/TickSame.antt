@@ -10,11 +10,10 @@ use Rattle.kern_model.specs.State.{Kernel, Task, list_at, task_at, prio_of, no_t
 use Rattle.kern_model.specs.Effect.{Effect, done, fine}
 use Rattle.kern_model.specs.RoundRobin.{first_in, full_quantum, rotates, spends, round_robin}
 use Rattle.kern_model.specs.Time.{signalled, signals_tick, signals_timer, time_tick}
-use Rattle.kern_model.specs.Valid.{IsValid}
-use Rattle.kern_model.proofs.Laws.{update_task_same, update_task_at, task-other}
-use Rattle.kern_model.proofs.PostLaws.{PostKeeps}
+use Rattle.kern_model.specs.Valid.{IsLinked}
+use Rattle.kern_model.proofs.Lemmas.{update_task_same, update_task_at, task-other, choice}
+use Rattle.kern_model.specs.Posts.{PostKeeps}
 use Rattle.machine_model.specs.Steps.{some_readied}
-use Rattle.kern_model.proofs.LeadLaws.{choice}
 use Rattle.method_law.proofs.WakeSame.{waits_not, none-readied, joins-alike, same-place}
 use Rattle.method_law.proofs.PostSame.{Same}
 
@@ -83,7 +82,7 @@ module _ (saved : ℕ) where
       ap (λ i. record k { tasks = update_task k.tasks x waits_no_more; ready = slice_set k.ready p (insert (list_at k.ready p) i x) }) (same-place saved p (list_at k.ready p) e.0 e.1)
   same-signalled _ x k h = refl
 
-  module _ (k : Kernel) (v : IsValid k) (c : ℕ) where
+  module _ (k : Kernel) (v : IsLinked k) (c : ℕ) where
     -- with the handler's compared priority: the kernel after the signal to the tick task, that after round robin, and the last
     abbrev first : Kernel
     first = (signals_tick 0 k).kernel
@@ -114,7 +113,7 @@ module _ (saved : ℕ) where
           let now : waits_not first tick_task ≡ true = ap (λ w. waits_not (signalled w tick_task 0 before_tick).kernel tick_task) e ∙ signalled-waits k.tasks tick_task in
           let later : waits_not second tick_task ≡ true = round_robin-same (λ (t : Task). waits_for_nothing t.waiting) (λ t n. refl) c first tick_task ∙ now in
           let j = joins-alike saved k after tick_task v keeps (ap waits_for_nothing e) (signals_timer-stays 0 second tick_task later) (none-readied saved k.tasks after.tasks l none tick_task) in
-          (j.0, j.1 v.tick_lives.1)
+          (j.0, j.1 v.internal.tick_lives.1)
 
       -- the timer task, which gets its signal
       timer-joins : to_come ≡ false → (task_at second timer_task).waiting ≡ Signal → (1 ≤ prio_of second timer_task) × (prio_of second timer_task ≡ saved → ⊥)
@@ -129,7 +128,7 @@ module _ (saved : ℕ) where
           = ap (λ u. waits_not (if u then counted else signalled w timer_task 0 before_timer).kernel timer_task) b
           ∙ ap (λ u. waits_not (signalled u timer_task 0 before_timer).kernel timer_task) e ∙ signalled-waits second.tasks timer_task in
           let j = joins-alike saved k after timer_task v keeps (ap waits_for_nothing (sym old ∙ e)) now (none-readied saved k.tasks after.tasks l none timer_task) in
-          (subst (λ p. 1 ≤ p) (sym prio) j.0, λ p. j.1 v.timer_lives.1 (sym prio ∙ p))
+          (subst (λ p. 1 ≤ p) (sym prio) j.0, λ p. j.1 v.internal.timer_lives.1 (sym prio ∙ p))
 
       same-tick : after ≡ (time_tick c saved k).kernel
       same-tick =

@@ -7,7 +7,7 @@ use Rattle.kern_base.specs.declared.outcomes.Answer.{Answer}
 use Rattle.kern_base.specs.Errors.{error_number}
 use Rattle.kern_model.specs.State.{without}
 use Rattle.rv32_exec.specs.Registers.{Registers, read, written}
-use Rattle.isr_nesting.specs.Marks.{post_marks}
+use Rattle.machine_model.specs.Marks.{post_marks}
 use Rattle.machine_model.specs.Interrupts.{told}
 use Rattle.method_law.specs.Alike.{has_mark, AgreeBut}
 use Rattle.method_law.proofs.MarkLaws.{agree-written}

@@ -3,8 +3,8 @@ use Rattle.std.specs.Prelude.{ℕ, Bool, true, List, [], Option}
 use Rattle.kern_base.specs.declared.services.Service.{Service}
 use Rattle.rv32_exec.specs.Registers.{Registers}
 use Rattle.inject_list.specs.declared.lists.Look.{Look}
-use Rattle.deferred_queue.specs.Queue.{Queued}
-use Rattle.isr_nesting.specs.Frames.{FrameRecord}
+use Rattle.machine_model.specs.Queue.{Queued}
+use Rattle.machine_model.specs.Frames.{FrameRecord}
 use Rattle.machine_model.specs.Machine.{Machine, WholeStep}
 use Rattle.method_law.specs.Relation.{all_performed}
 use Rattle.method_law.specs.Modes.{at_step, calm_machine, frame_machine, HasNoTake, FrameAgrees, IsOpen}

@@ -10,9 +10,9 @@ use Rattle.kern_model.specs.Micro.{join_place}
 use Rattle.kern_model.specs.FlagBits.{ready_bits}
 use Rattle.kern_model.specs.Effect.{wakes, wakes_all, answered_task, woken_ready, unmatched, left_all, result_of, fine}
 use Rattle.kern_model.specs.Flags.{flag_wakes, flag_wakes_all}
-use Rattle.kern_model.specs.Valid.{IsValid}
-use Rattle.kern_model.proofs.Laws.{update_task_at}
-use Rattle.kern_model.proofs.PostLaws.{PostKeeps, keeps-trans, keeps-refl, keeps-wakes}
+use Rattle.kern_model.specs.Valid.{IsLinked}
+use Rattle.kern_model.proofs.Lemmas.{update_task_at, keeps-trans, keeps-refl, keeps-wakes}
+use Rattle.kern_model.specs.Posts.{PostKeeps}
 use Rattle.machine_model.specs.Steps.{is_readied, some_readied}
 
 -- whether a task of the kernel waits for nothing
@@ -48,18 +48,18 @@ module _ (saved : ℕ) where
       (same-ready t.suspended t.prio x k.ready h.0 h.1)
 
   -- a task that is not ready, waits for nothing in the end, and is not readied with that priority
-  pub joins-alike : (k after : Kernel) (y : ℕ) → IsValid k → PostKeeps k after → waits_not k y ≡ false → waits_not after y ≡ true → is_readied saved (task_at k y) (task_at after y) ≡ false → JoinsAlike k y
+  pub joins-alike : (k after : Kernel) (y : ℕ) → IsLinked k → PostKeeps k after → waits_not k y ≡ false → waits_not after y ≡ true → is_readied saved (task_at k y) (task_at after y) ≡ false → JoinsAlike k y
   joins-alike k after y v keeps before now none =
       let t = task_at k y in
       let u = task_at after y in
       let not-ready : is_ready t ≡ false = ap (λ b. t.alive && (b && is_zero t.suspended)) before ∙ and_right t.alive false refl in
       let clash : t.suspended ≡ 0 → t.prio ≡ saved → ⊥
       = λ s p.
-      (let ready : is_ready u ≡ true = and_from u.alive (waits_not after y && is_zero u.suspended) (keeps.alive y ∙ (v.each_task y).lives before)
+      (let ready : is_ready u ≡ true = and_from u.alive (waits_not after y && is_zero u.suspended) (keeps.alive y ∙ (v.tasks.each_task y).lives before)
       (and_from (waits_not after y) (is_zero u.suspended) now (ap is_zero (keeps.suspended y ∙ s))) in
       let yes = and_from (not (is_ready t)) (is_ready u && (u.prio == saved)) (ap not not-ready) (and_from (is_ready u) (u.prio == saved) ready (eq-eqb u.prio saved (keeps.prio y ∙ p))) in
       false≢true (sym none ∙ yes)) in
-      ((v.each_task y).prio_from, clash)
+      ((v.tasks.each_task y).prio_from, clash)
 
   -- the same after other posts
   pub still-joins : (k j : Kernel) (y : ℕ) → PostKeeps k j → JoinsAlike k y → JoinsAlike j y

@@ -7,7 +7,7 @@ use Rattle.rv32_exec.specs.Registers.{Registers, read}
 use Rattle.rv32_exec.specs.Exec.{Execution, exec}
 use Rattle.rv32_exec.specs.declared.Stepped.{Stepped}
 use Rattle.rv32_exec.specs.declared.Stepped.TheVariants.{Next, Call, Trap, Stored}
-use Rattle.isr_nesting.specs.Marks.{is_marked, reads_of, marks_after, next_instruction}
+use Rattle.machine_model.specs.Marks.{is_marked, reads_of, marks_after, next_instruction}
 use Rattle.machine_model.specs.Answers.{arguments}
 use Rattle.machine_model.specs.Interrupts.{argument_words}
 

@@ -2,7 +2,7 @@
 use Rattle.std.specs.Prelude.{◌≡◌, ℕ, Bool, false, List, ◌++◌, None, ◌⊎◌, ◌==◌}
 use Rattle.kern_base.specs.declared.kinds.Method.TheVariants.{Direct, Deferred}
 use Rattle.kern_base.specs.declared.services.Service.{Service}
-use Rattle.kern_model.specs.Valid.{IsValid}
+use Rattle.kern_model.specs.Valid.{IsLinked}
 use Rattle.app_image.specs.Image.{ImageRecord}
 use Rattle.machine_model.specs.declared.events.Event.{Event}
 use Rattle.machine_model.specs.Machine.{Machine}
@@ -48,4 +48,4 @@ abbrev pub EventsGo : Type 0
 EventsGo =
     (served : Service → Bool) (image : ImageRecord) (n : ℕ) (d m : Machine) → Related served n d m → (d.t == n) ≡ false
     → look_at d.s d.looks ≡ None → look_at m.s m.looks ≡ None → BreaksNone (next served Deferred d).0
-    → IsValid d.kernel → Goes served image n d m
+    → IsLinked d.kernel → Goes served image n d m

@@ -1,10 +1,11 @@
 -- What the static checks of a call look at stays as it is while posts wait.
 use Rattle.std.specs.Prelude.{◌≡◌, ℕ, Bool, true, List, All}
-use Rattle.kern_base.specs.Checks.{is_post, static_error}
+use Rattle.kern_base.specs.Services.{is_post}
+use Rattle.kern_base.specs.Checks.{static_error}
 use Rattle.kern_base.specs.declared.services.Service.{Service}
 use Rattle.kern_model.specs.State.{Kernel, kinds_of}
 use Rattle.kern_model.specs.Services.{posted}
-use Rattle.deferred_queue.specs.Queue.{Queued}
+use Rattle.machine_model.specs.Queue.{Queued}
 use Rattle.method_law.specs.Relation.{all_performed}
 
 -- A post changes no kind of an object, and not how many tasks there are.

@@ -1,6 +1,7 @@
 -- What a post looks at of the words in the registers.
 use Rattle.std.specs.Prelude.{◌≡◌, ℕ, Bool, true}
-use Rattle.kern_base.specs.Checks.{is_post, static_error}
+use Rattle.kern_base.specs.Services.{is_post}
+use Rattle.kern_base.specs.Checks.{static_error}
 use Rattle.kern_base.specs.Tables.{KindTable}
 use Rattle.kern_base.specs.declared.services.Service.{Service}
 use Rattle.kern_model.specs.State.{Kernel}

@@ -1,12 +1,12 @@
 -- The relation between a run by the deferred method and one by the direct method: the direct kernel is the deferred one with
 -- all queued posts performed, in their order, each at the priority that was saved with it.
 use Rattle.std.specs.Prelude.{◌≡◌, Bool, true, List, [], ◌∷◌, ◌++◌, All}
-use Rattle.kern_base.specs.Checks.{is_post}
+use Rattle.kern_base.specs.Services.{is_post}
 use Rattle.kern_base.specs.declared.services.Service.{Service}
 use Rattle.kern_model.specs.State.{Kernel}
 use Rattle.kern_model.specs.Services.{posted}
-use Rattle.kern_laws.specs.Laws.{PostStays}
-use Rattle.deferred_queue.specs.Queue.{Queued}
+use Rattle.kern_model.specs.Posts.{PostKeeps}
+use Rattle.machine_model.specs.Queue.{Queued}
 
 -- the kernel after one queued post, which is compared with its saved priority
 abbrev pub performed : (Service → Bool) → Queued → Kernel → Kernel
@@ -27,4 +27,4 @@ TakingPerforms = (served : Service → Bool) (q : Queued) (later : List Queued) 
 
 -- Queued posts keep what every post keeps.
 abbrev pub PerformingKeeps : Type 0
-PerformingKeeps = (served : Service → Bool) (later : List Queued) (k : Kernel) → All (λ q. is_post q.service ≡ true) later → PostStays k (all_performed served later k)
+PerformingKeeps = (served : Service → Bool) (later : List Queued) (k : Kernel) → All (λ q. is_post q.service ≡ true) later → PostKeeps k (all_performed served later k)

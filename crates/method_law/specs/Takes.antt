@@ -1,11 +1,11 @@
 -- A take does what its post would have done at once.
 use Rattle.std.specs.Prelude.{◌≡◌, Bool, true, false}
-use Rattle.kern_base.specs.Checks.{is_post}
+use Rattle.kern_base.specs.Services.{is_post}
 use Rattle.kern_base.specs.declared.services.Service.{Service}
 use Rattle.kern_model.specs.State.{Kernel}
-use Rattle.kern_model.specs.Valid.{IsValid}
+use Rattle.kern_model.specs.Valid.{IsLinked}
 use Rattle.app_image.specs.declared.settings.Config.{Config}
-use Rattle.deferred_queue.specs.Queue.{Queued}
+use Rattle.machine_model.specs.Queue.{Queued}
 use Rattle.machine_model.specs.Machine.{TakeOf, effect_of}
 use Rattle.machine_model.specs.Steps.{readies_same}
 use Rattle.method_law.specs.Relation.{performed}
@@ -20,4 +20,4 @@ TakesAsAtOnce served config q k =
 -- Every take of a valid kernel does so.
 abbrev pub TakesAreAsAtOnce : Type 0
 TakesAreAsAtOnce =
-    (served : Service → Bool) (config : Config) (q : Queued) (k : Kernel) → IsValid k → is_post q.service ≡ true → TakesAsAtOnce served config q k
+    (served : Service → Bool) (config : Config) (q : Queued) (k : Kernel) → IsLinked k → is_post q.service ≡ true → TakesAsAtOnce served config q k

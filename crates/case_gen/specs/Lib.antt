@@ -1,3 +1,0 @@
-pub mod Application
-pub mod Draws
-pub mod Generated
