@@ -30,11 +30,16 @@ pub fn push_word(line: &mut Line, word: &[u8])
 }
 
 /// Appends a number, which has at most 10 digits.
+#[tactic(auto, using(std::proofs::lemmas::Fmt::decimal_digit))]
 pub fn push_digits(line: &mut Line, number: u32)
     requires room { array_vec_len line.old + 10 ≤ 512 }
     ensures items { line.new.items ≡ line.old.items ++ decimal number }
     ensures len { array_vec_len line.new ≤ array_vec_len line.old + 10 }
 {
+    if number < 10 {
+        line.push(b'0' + number as u8);
+        return;
+    }
     let mut buffer = Buffer::new();
     push_bytes(line, buffer.format(number).as_bytes());
 }

@@ -1,10 +1,16 @@
 //! The program: it makes the words and the standard streams, and ends with the number of the status.
 #![tactic(auto)]
 
-use outside::{StdSink, StdSource};
+ghost use Rattle.std.specs.Prelude.{◌≡◌, ◌≢◌, OnErr, OnOk};
+
+use outside::{Failed, StdSink, StdSource};
+use std::io::{BufWriter, Stdout};
 use std::process::ExitCode;
 use std::{env, io};
 use ucos_top::{Status, ucos_main};
+
+// How many bytes of output are collected into one write to the operating system.
+const OUTPUT_ROOM: usize = 65536;
 
 // The words after the program's name.
 fn words_of(rt: &HostRuntime) -> io::Result<Vec<String>> {
@@ -15,13 +21,35 @@ fn words_of(rt: &HostRuntime) -> io::Result<Vec<String>> {
     Ok(words)
 }
 
+// The standard output, collected; where there is no memory for that, each write goes out by itself.
+fn output(rt: &HostRuntime) -> BufWriter<Stdout> {
+    match BufWriter::with_capacity(rt.alloc(), OUTPUT_ROOM, rt.stdout()) {
+        Ok(out) => out,
+        Err(_) => BufWriter::with_capacity(rt.alloc(), 0, rt.stdout()).unwrap(),
+    }
+}
+
+// The status once the collected output was flushed. Where that failed, what was asked for is not written;
+// any other status stays.
+fn ended(status: Status, flushed: Result<(), Failed>) -> Status
+    ensures flushed { OnOk flushed (result ≡ status) }
+    ensures fault { OnErr flushed (status ≡ Status.Done → result ≡ Status.WriteFault) }
+    ensures other { OnErr flushed (status ≢ Status.Done → result ≡ status) }
+{
+    match flushed {
+        Err(Failed) if status == Status::Done => Status::WriteFault,
+        _ => status,
+    }
+}
+
 // A word that is no text stands in no command.
 fn run(rt: &HostRuntime) -> Status {
     match words_of(rt) {
         Ok(words) => {
             let mut source = StdSource::new(rt.stdin());
-            let mut sink = StdSink::new(rt.stdout());
-            ucos_main(rt.alloc(), &words, &mut source, &mut sink)
+            let mut sink = StdSink::new(output(rt));
+            let status = ucos_main(rt.alloc(), &words, &mut source, &mut sink);
+            ended(status, sink.flush())
         }
         Err(e) if e.kind() == io::ErrorKind::OutOfMemory => Status::NoMemory,
         Err(_) => Status::Usage,
@@ -29,5 +57,5 @@ fn run(rt: &HostRuntime) -> Status {
 }
 
 fn main(rt: HostRuntime) -> ExitCode {
-    ExitCode::from(run(&rt) as u8)
+    ExitCode::from(run(&rt).number())
 }

@@ -1,7 +1,7 @@
 mod cases;
 mod interrupts;
 
-use outside::{MemSink, MemSource, Sink};
+use outside::{MemSink, MemSource};
 use std::alloc::{AllocError, Global};
 use std::test::Fail;
 use ucos_top::{INPUT_LIMIT, Status, ucos_main};
@@ -379,6 +379,10 @@ fn words_that_are_no_command_write_nothing(rt: HostRuntime) -> Result<(), Fail> 
 fn faults_have_their_status(rt: HostRuntime) -> Result<(), Fail> {
     let first = Given::new("run direct 8", FIRST.as_bytes());
     let no_case = Given::new("run direct 8", b"");
+    let ping = Given::new("run direct 30", PING.as_bytes());
+    let list = Given::new("list", FIRST.as_bytes());
+    let switched =
+        b"0 0 start two\n3 3 call two OSSemPend 1 0 0\n9 3 wait two OSSemPend\n9 3 sw two one\n13";
     let cut = b"0 0 start a\n2 2 call a OSSemPost 0 0\n4 2 ret a OSSemPost OS_ERR_NONE 1\n7 5";
     for (given, status, written) in [
         (
@@ -388,6 +392,23 @@ fn faults_have_their_status(rt: HostRuntime) -> Result<(), Fail> {
             },
             Status::WriteFault,
             cut.as_slice(),
+        ),
+        // an event's own line and its switch line are one write, and so is each line of a listing
+        (
+            Given {
+                write_fails: (4, 2),
+                ..ping
+            },
+            Status::WriteFault,
+            switched.as_slice(),
+        ),
+        (
+            Given {
+                write_fails: (2, 3),
+                ..list
+            },
+            Status::WriteFault,
+            b"task 0 a 0 10 0 0 1310720\nobj".as_slice(),
         ),
         (
             Given {
@@ -445,13 +466,9 @@ fn answers_with_ample_memory(rt: HostRuntime) -> Result<(), Fail> {
         String::from_str(alloc, "direct")?,
         String::from_str(alloc, "8")?,
     ]?;
-    let mut sink = MemSink::new(alloc, 65_536, Vec::new(alloc)).map_err(|_| AllocError)?;
-    assert_eq!(rt; sink.write(b"*"), Ok(()));
-    let status = crate::run_in_memory(alloc, &words, FIRST.as_bytes().to_vec(alloc)?, &mut sink);
-    assert_eq!(rt; status, Status::Done);
-    assert_eq!(rt;
-        sink.bytes().split_first().map(|(_, rest)| rest),
-        Some(FIRST_TO_8.as_bytes())
-    );
+    let answered = crate::run_in_memory(alloc, &words, FIRST.as_bytes().to_vec(alloc)?);
+    let answered = answered.map_err(|_| AllocError)?;
+    assert_eq!(rt; answered.status, Status::Done);
+    assert_eq!(rt; answered.text.as_slice(), FIRST_TO_8.as_bytes());
     Ok(())
 }

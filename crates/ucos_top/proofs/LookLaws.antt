@@ -12,7 +12,7 @@ use Rattle.inject_list.specs.Stage.{Reading, Gives, Refuses, cause_of, with_line
 use Rattle.inject_list.specs.declared.causes.InjectCause.{InjectCause}
 use Rattle.inject_list.specs.declared.lists.Moment.{Moment}
 use Rattle.inject_list.specs.declared.lists.Moment.TheVariants.{Task, Step}
-use Rattle.ucos_top.specs.Case.{is_look, first_look}
+use Rattle.program_model.specs.Case.{is_look, first_look}
 
 not_interrupt : (moment : Moment) (vector at : ℕ) (target : Target) (words : Option (List ℕ)) → option_map (Interrupt moment vector) words ≡ Some (Looks at target) → ⊥
 not_interrupt moment vector at target None e = cc

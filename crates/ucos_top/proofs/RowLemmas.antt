@@ -2,7 +2,7 @@
 use Rattle.std.proofs.Common.{◌≡◌, ℕ, ◌+◌, ◌<◌, List, ◌++◌, length, drop, ap}
 use Rattle.std.proofs.Math.ListN.{get_or}
 use Rattle.std.proofs.lemmas.List.{drop_more}
-use Rattle.ucos_top.specs.Listing.{numbered}
+use Rattle.program_model.specs.Listing.{numbered}
 
 -- the next row's line, and the lines behind it
 pub rows_more : {T : Type 0} (f : ℕ → T → List ℕ) (xs : List T) (i : ℕ) (d : T) → i < length xs

@@ -5,12 +5,12 @@ use Rattle.std.specs.Prelude.{MatchResult}
 use Rattle.std.specs.Io.KnownBytes.{Appends}
 use Rattle.outside.specs.Causes.{HasCause}
 use Rattle.outside.specs.Written.{WritesPiece}
-use Rattle.ucos_top.specs.declared.TheConstants.{INPUT_LIMIT}
-use Rattle.ucos_top.specs.declared.Status.{Status}
-use Rattle.ucos_top.specs.declared.Status.TheVariants.{Done, WriteFault}
-use Rattle.ucos_top.specs.declared.words.Command.{Command}
-use Rattle.ucos_top.specs.Answer.{Answer, case_answer, command_answer, defined_of}
-use Rattle.ucos_top.specs.Case.{case_of}
+use Rattle.program_model.specs.Limits.{longest_input}
+use Rattle.program_model.specs.declared.statuses.Status.{Status}
+use Rattle.program_model.specs.declared.statuses.Status.TheVariants.{Done, WriteFault}
+use Rattle.program_model.specs.declared.commands.Command.{Command}
+use Rattle.program_model.specs.Answer.{Answer, case_answer, command_answer, defined_of}
+use Rattle.program_model.specs.Case.{case_of}
 use Rattle.ucos_top.specs.Told.{AppendsUnlessRose}
 
 -- a line was written, or a prefix of it where the write failed
@@ -25,10 +25,10 @@ whole_written (Err x) ending old new text ends p done = absurd cc
 
 -- what holds of the answer on the bytes that were read holds of the defined answer
 pub told_answer : (words : Option Command) (command : Command) (input : List ℕ) (left : Option (List ℕ)) (P : Answer → Type 0) → words ≡ Some command
-    → length input ≤ INPUT_LIMIT → IfSome left (λ b. input ≡ b) → P (case_answer command (case_of input)) → IfSome (defined_of words left) P
+    → length input ≤ longest_input → IfSome left (λ b. input ≡ b) → P (case_answer command (case_of input)) → IfSome (defined_of words left) P
 told_answer words command input None P e short same p = rw e tt
 told_answer words command input (Some bytes) P e short same p =
-    let fits : nat_lt INPUT_LIMIT (length bytes) ≡ false = le-ltb INPUT_LIMIT (length bytes) (subst (λ l. length l ≤ INPUT_LIMIT) same short) in
+    let fits : nat_lt longest_input (length bytes) ≡ false = le-ltb longest_input (length bytes) (subst (λ l. length l ≤ longest_input) same short) in
     rw (e, fits) (subst (λ l. P (case_answer command (case_of l))) same p)
 
 -- the defined answer is the answer on the bytes that the source told

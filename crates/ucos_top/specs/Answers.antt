@@ -4,7 +4,7 @@ use Rattle.text_lex.specs.declared.Token.{Token}
 use Rattle.text_lex.specs.Tokens.{Lexed, Tokens, lexed}
 use Rattle.app_image.specs.Image.{ImageRecord}
 use Rattle.inject_list.specs.Lists.{ListRecord, IsValidList}
-use Rattle.ucos_top.specs.Case.{Case, Accepts, Refuses, with_tokens}
+use Rattle.program_model.specs.Case.{Case, Accepts, Refuses, with_tokens}
 use Rattle.ucos_top.specs.declared.causes.CaseError.{CaseError}
 use Rattle.ucos_top.specs.declared.causes.CaseError.TheVariants.{NoMemory, At}
 

@@ -1,10 +1,2 @@
-pub mod Case
 pub mod Answers
-pub mod Words
-pub mod Commands
-pub mod Whole
-pub mod Limit
-pub mod Listing
-pub mod Refusals
-pub mod Answer
 pub mod Told

@@ -3,8 +3,8 @@ use Rattle.std.specs.Prelude.{◌≡◌, ℕ, List, [], ◌⊎◌, Option, Some,
 use Rattle.std.specs.Io.KnownBytes.{Appends}
 use Rattle.outside.specs.Causes.{Rose}
 use Rattle.outside.specs.Written.{AppendsPrefix}
-use Rattle.ucos_top.specs.declared.Status.{Status}
-use Rattle.ucos_top.specs.declared.Status.TheVariants as status
+use Rattle.program_model.specs.declared.statuses.Status.{Status}
+use Rattle.program_model.specs.declared.statuses.Status.TheVariants as status
 
 -- where the source told its bytes, all of them are read
 abbrev pub ReadWhole : Option (List ℕ) → Option (List ℕ) → Type 0
@@ -42,6 +42,7 @@ IsRun _ = ⊥
 abbrev pub IsAfterReading : Status → Type 0
 IsAfterReading status.Done = Unit {0}
 IsAfterReading status.Refused = Unit {0}
+IsAfterReading status.WriteFault = Unit {0}
 IsAfterReading _ = ⊥
 
 -- the statuses that come before the first write of a run: no fault of the sink hides them

@@ -9,21 +9,22 @@ ghost use Rattle.app_image.specs.Image.{IsValidImage};
 ghost use Rattle.inject_list.specs.Lists.{IsValidList};
 ghost use Rattle.inject_list.specs.Pieces.{is_end, lines, piece_of};
 ghost use Rattle.ucos_top.specs.Answers.{AreRestOf, IsFaultOf, IsInside, IsToRun, Tells};
-ghost use Rattle.ucos_top.specs.Case.{case_of, checked_case, first_look, image_case, is_look, looks_refused, text_case};
+ghost use Rattle.program_model.specs.Case.{case_of, checked_case, first_look, image_case, is_look, looks_refused, text_case};
+ghost use Rattle.program_model.specs.Limits.{longest_input};
 
-use crate::INPUT_LIMIT;
-use crate::causes::{CaseCause, CaseError};
+use crate::causes::CaseError;
 use app_image::{Image, ImageError, RawImage, check, read_image};
 use inject_list::{InjectError, InjectList, read};
+use program_model::CaseCause;
 use rv32_asm::{AsmError, assemble};
 use std::alloc::Global;
 use text_lex::{LexError, Token, TokenKind, slice, tokens};
 
 /// The case that an input is: the image of a text and the injections behind its line `.inject`, or a
 /// binary image and the injections behind it. No case has a look.
-#[tactic(auto, unfolding(crate::specs::Case::input_case))]
+#[tactic(auto, unfolding(program_model::specs::Case::input_case))]
 pub fn read_case(alloc: Global, input: &[u8]) -> Result<(Image, InjectList), CaseError>
-    requires { length input.now ≤ INPUT_LIMIT }
+    requires { length input.now ≤ longest_input }
     ensures case { Tells result (case_of input.now) }
     ensures valid { IfOk result (λ c. IsValidImage c.0) }
     ensures to_run { IfOk result (λ c. IsToRun c.0 c.1) }
@@ -36,9 +37,9 @@ pub fn read_case(alloc: Global, input: &[u8]) -> Result<(Image, InjectList), Cas
 }
 
 // The case that a text is.
-#[tactic(auto, using(crate::proofs::UsedLaws::used_few), unfolding(crate::specs::Case::text_case))]
+#[tactic(auto, using(crate::proofs::UsedLaws::used_few), unfolding(program_model::specs::Case::text_case))]
 fn read_text(alloc: Global, text: &[u8]) -> Result<(Image, InjectList), CaseError>
-    requires { length text.now ≤ INPUT_LIMIT }
+    requires { length text.now ≤ longest_input }
     ensures case { Tells result (text_case looks_refused text.now) }
     ensures valid { IfOk result (λ c. IsValidImage c.0) }
     ensures to_run { IfOk result (λ c. IsToRun c.0 c.1) }
@@ -52,10 +53,10 @@ fn read_text(alloc: Global, text: &[u8]) -> Result<(Image, InjectList), CaseErro
 }
 
 // The case that a binary image and the text behind it are.
-#[tactic(auto, unfolding(crate::specs::Case::image_case))]
+#[tactic(auto, unfolding(program_model::specs::Case::image_case))]
 fn read_binary(alloc: Global, input: &[u8]) -> Result<(Image, InjectList), CaseError>
     requires image { take 4 input.now ≡ magic }
-    requires short { length input.now ≤ INPUT_LIMIT }
+    requires short { length input.now ≤ longest_input }
     ensures case { Tells result (image_case looks_refused input.now) }
     ensures valid { IfOk result (λ c. IsValidImage c.0) }
     ensures to_run { IfOk result (λ c. IsToRun c.0 c.1) }
@@ -73,7 +74,7 @@ fn read_binary(alloc: Global, input: &[u8]) -> Result<(Image, InjectList), CaseE
 
 // The tokens of a text.
 fn read_tokens(alloc: Global, text: &[u8]) -> Result<Vec<Token>, CaseError>
-    requires { length text.now ≤ INPUT_LIMIT }
+    requires { length text.now ≤ longest_input }
     ensures tokens { IfOk result (λ found. lexed text.now ≡ Tokens found.items) }
     ensures fault { IfErr result (λ error. IsFaultOf error (lexed text.now)) }
 {

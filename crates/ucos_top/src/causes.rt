@@ -4,31 +4,13 @@ ghost use Rattle.std.specs.Prelude.{◌≡◌, ◌++◌, ◌≤◌, ◌+◌, [],
 ghost use Rattle.arrayvec.specs.ArrayVec.{array_vec_len};
 ghost use Rattle.rv32_asm.specs.Refusal.{cause_number};
 ghost use Rattle.inject_list.specs.Stage as inject;
-ghost use Rattle.ucos_top.specs.Refusals.{letter, number, refusal_line};
+ghost use Rattle.program_model.specs.Refusals.{letter, number, refusal_line};
 
-use app_image::ImageCause;
 use arrayvec::ArrayVec;
 use inject_list::InjectCause;
 use itoa::Buffer;
+use program_model::CaseCause;
 use rv32_asm::AsmCause;
-
-/// Why a case is refused. The stages of reading stand in their order; the first that has a cause
-/// decides.
-#[derive(Clone, Copy, Debug, PartialEq, Eq)]
-pub enum CaseCause {
-    /// L1: a byte that begins no token.
-    BadByte,
-    /// L2: a number out of range.
-    NumberTooLarge,
-    /// A1 to A14: the text is not assembled.
-    OfText(AsmCause),
-    /// I1 to I16: the image is not valid, or its bytes are no image.
-    OfImage(ImageCause),
-    /// J1 to J6: a line behind `.inject`, or behind a binary image, is no injection of the image.
-    OfInjection(InjectCause),
-    /// X3: a line is a look, which is not built.
-    Look,
-}
 
 /// Why an input is not read as a case.
 #[derive(Clone, Copy, Debug, PartialEq, Eq)]
@@ -61,7 +43,7 @@ fn push_number(line: &mut RefusalLine, n: u32)
 }
 
 /// The line that refuses a case at a line for a cause, as `refused 3 A5`.
-#[tactic(auto, unfolding(crate::specs::Refusals::refusal_line))]
+#[tactic(auto, unfolding(program_model::specs::Refusals::refusal_line))]
 pub fn refusal_line(line: u32, cause: CaseCause) -> RefusalLine
     ensures { result.items ≡ refusal_line line cause }
 {

@@ -4,7 +4,7 @@ ghost use Rattle.std.specs.Prelude.{◌≡◌, ◌++◌, ◌+◌, ◌*◌, ◌/�
 ghost use Rattle.arrayvec.specs.ArrayVec.{array_vec_len};
 ghost use Rattle.outside.specs.Causes.{HasCause};
 ghost use Rattle.outside.specs.Written.{WritesPiece};
-ghost use Rattle.ucos_top.specs.Listing.{callback_word, code_line, hex_word, hex_digit, kind_words, listing, numbered, object_line, ram_line, spaced, task_line, timer_words, vector_line};
+ghost use Rattle.program_model.specs.Listing.{callback_word, code_line, hex_word, hex_digit, kind_words, listing, numbered, object_line, ram_line, spaced, task_line, timer_words, vector_line};
 
 use app_image::{Image, ObjDef, TaskDef, VectorDef};
 use arrayvec::ArrayVec;
@@ -16,7 +16,7 @@ use outside::{Failed, Sink};
 type Line = ArrayVec<u8, 128>;
 
 /// Writes the listing of an image, each line in one write.
-#[tactic(auto, unfolding(crate::specs::Listing::listing))]
+#[tactic(auto, unfolding(program_model::specs::Listing::listing))]
 pub fn write_listing<K: Sink>(image: &Image, sink: &mut K) -> Result<(), Failed>
     ensures bytes { WritesPiece (K.held sink.old) (K.held sink.new) result (listing image.now) }
     ensures cause { HasCause (K.faults sink.old) (K.faults sink.new) result }

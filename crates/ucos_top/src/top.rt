@@ -2,25 +2,25 @@ ghost use Rattle.std.specs.Prelude.{◌≡◌, ◌≢◌, ◌⊎◌, ◌≤◌, 
 ghost use Rattle.std.specs.Io.KnownBytes.{Appends};
 ghost use Rattle.outside.specs.Causes.{Rose, DidNotRise};
 ghost use Rattle.outside.specs.Written.{AppendsPrefix};
-ghost use Rattle.ucos_top.specs.Words.{command_of, texts};
-ghost use Rattle.ucos_top.specs.Answer.{accepted_text, case_answer, defined, printed, Reads, TakesMemory};
+ghost use Rattle.program_model.specs.Words.{command_of, texts};
+ghost use Rattle.program_model.specs.Answer.{accepted_text, case_answer, defined, printed, Reads, TakesMemory};
 ghost use Rattle.ucos_top.specs.Answers.{IsToRun};
-ghost use Rattle.ucos_top.specs.Case.{case_of};
-ghost use Rattle.ucos_top.specs.Refusals.{refusal_line};
-ghost use Rattle.ucos_top.specs.Limit.{IsWithinLimit};
+ghost use Rattle.program_model.specs.Case.{case_of};
+ghost use Rattle.program_model.specs.Refusals.{refusal_line};
+ghost use Rattle.program_model.specs.Limits.{IsWithinLimit, longest_input, most_task_steps};
 ghost use Rattle.ucos_top.specs.Told.{ReadWhole, AppendsUnlessRose, OrNoMemory, IsWhole, IsSilent, IsRun, IsAfterReading, IsEarly};
 
 use crate::case::read_case;
-use crate::causes::{CaseCause, CaseError, refusal_line};
+use crate::causes::{CaseError, refusal_line};
 use crate::listing::write_listing;
 use crate::reading::{InputError, read_input};
 use crate::text::write_run;
-use crate::words::{Command, command_of};
-use crate::{COUNT_LIMIT, INPUT_LIMIT, Status};
+use crate::words::command_of;
 use app_image::{Image, write_image};
 use inject_list::InjectList;
 use machine_core::Machine;
 use outside::{Failed, Sink, Source};
+use program_model::{CaseCause, Command, Status};
 use std::alloc::Global;
 
 /// Does what the words ask for, and answers how it ended. The defined answer of the words is known
@@ -93,7 +93,7 @@ pub fn ucos_main<S: Source, K: Sink>(
 
 // Does a command on an input that was read whole.
 fn obey<K: Sink>(alloc: Global, command: Command, input: &[u8], sink: &mut K) -> Status
-    requires short { length input.now ≤ INPUT_LIMIT }
+    requires short { length input.now ≤ longest_input }
     requires within { IsWithinLimit command }
     ensures own { (result ≢ Status.Usage) × (result ≢ Status.ReadFault) × (result ≢ Status.TooLong) }
     ensures sink_count { K.faults sink.old ≤ K.faults sink.new }
@@ -167,7 +167,7 @@ fn run_case<K: Sink>(
     count: u32,
     sink: &mut K,
 ) -> Status
-    requires count { count ≤ COUNT_LIMIT }
+    requires count { count ≤ most_task_steps }
     requires to_run { IsToRun image.now list.now }
     ensures own { (result ≡ Status.NoMemory) ⊎ ((result ≡ Status.WriteFault) ⊎ (result ≡ Status.Done)) }
     ensures sink_count { K.faults sink.old ≤ K.faults sink.new }

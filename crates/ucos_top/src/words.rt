@@ -1,20 +1,9 @@
 ghost use Rattle.std.specs.Prelude.{◌≡◌, ◌≤◌, IfSome};
-ghost use Rattle.ucos_top.specs.Words.{command_of, count_word, texts};
-ghost use Rattle.ucos_top.specs.Limit.{IsWithinLimit};
+ghost use Rattle.program_model.specs.Words.{command_of, count_word, texts};
+ghost use Rattle.program_model.specs.Limits.{IsWithinLimit, most_task_steps};
 
 use crate::COUNT_LIMIT;
-
-/// What the words ask for.
-#[derive(Clone, Copy, Debug, PartialEq, Eq)]
-pub enum Command {
-    /// The printed run of the case to so many task steps, at most `COUNT_LIMIT`, where interrupt code
-    /// posts at once.
-    Run(u32),
-    /// The listing of the case's image.
-    Listing,
-    /// The case's image in the binary format.
-    Binary,
-}
+use program_model::Command;
 
 /// The command that the words are, if they are one: `run direct N`, `list` or `image`.
 pub fn command_of(words: &[String]) -> Option<Command>
@@ -34,7 +23,7 @@ pub fn command_of(words: &[String]) -> Option<Command>
 // One to seven decimal digits, of a value of at most `COUNT_LIMIT`.
 fn count_of(word: &[u8]) -> Option<u32>
     ensures value { result ≡ count_word word.now }
-    ensures within { IfSome result (λ count. count ≤ COUNT_LIMIT) }
+    ensures within { IfSome result (λ count. count ≤ most_task_steps) }
 {
     if word.is_empty() || word.len() > 7 {
         return None;

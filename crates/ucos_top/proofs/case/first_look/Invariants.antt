@@ -1,7 +1,7 @@
 use Rattle.std.proofs.Common.{◌≡◌, List, Bool, true, false, drop}
 use Rattle.text_lex.specs.declared.Token.{Token}
 use Rattle.inject_list.specs.Pieces.{lines}
-use Rattle.ucos_top.specs.Case.{first_look}
+use Rattle.program_model.specs.Case.{first_look}
 use Rattle.ucos_top.proofs.case.first_look.Given as goal
 
 -- the lines of some tokens, without the first where it has begun before them

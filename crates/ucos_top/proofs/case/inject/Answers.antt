@@ -4,7 +4,7 @@ use Rattle.std.proofs.lemmas.List.Elements.{All-drop}
 use Rattle.text_lex.proofs.TokenFacts.{token_inside}
 use Rattle.inject_list.specs.Pieces.{lines}
 use Rattle.ucos_top.specs.Answers.{IsInside}
-use Rattle.ucos_top.specs.Case.{first_look}
+use Rattle.program_model.specs.Case.{first_look}
 use Rattle.ucos_top.proofs.LookLaws.{no_looks_read}
 use Rattle.ucos_top.proofs.case.inject.Goals as goal
 

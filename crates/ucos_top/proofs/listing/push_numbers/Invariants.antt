@@ -1,6 +1,6 @@
 use Rattle.std.proofs.Common.{◌≡◌, ◌++◌, ◌+◌, ◌*◌, ◌≤◌, length, map, drop, decimal}
 use Rattle.arrayvec.specs.ArrayVec.{array_vec_len}
-use Rattle.ucos_top.specs.Listing.{spaced}
+use Rattle.program_model.specs.Listing.{spaced}
 use Rattle.ucos_top.proofs.listing.push_numbers.Given as goal
 
 -- what is appended, and what is left, are the words of all

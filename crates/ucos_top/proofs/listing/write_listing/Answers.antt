@@ -4,7 +4,7 @@ use Rattle.std.proofs.lemmas.Result.{err_from_is_err_and}
 use Rattle.std.specs.Io.KnownBytes.{Appends}
 use Rattle.outside.specs.Written.{AppendsPrefix, WritesPiece}
 use Rattle.outside.proofs.Known.{AppendsPrefix-after, WritesPiece-after}
-use Rattle.ucos_top.specs.Listing.{code_line, listing, numbered, object_line, ram_line, task_line, vector_line}
+use Rattle.program_model.specs.Listing.{code_line, listing, numbered, object_line, ram_line, task_line, vector_line}
 use Rattle.ucos_top.proofs.listing.write_listing.Goals as goal
 
 -- a prefix of the objects is written, behind the tasks

@@ -3,7 +3,7 @@ use Rattle.std.proofs.Math.ListN.{get_or}
 use Rattle.std.proofs.KnownBytes.{Appends-trans}
 use Rattle.std.proofs.lemmas.Result.{err_from_is_err_and}
 use Rattle.outside.proofs.Known.{AppendsPrefix-after}
-use Rattle.ucos_top.specs.Listing.{numbered}
+use Rattle.program_model.specs.Listing.{numbered}
 use Rattle.ucos_top.proofs.RowLemmas.{rows_more}
 use Rattle.ucos_top.proofs.listing.write_rows.Goals as goal
 

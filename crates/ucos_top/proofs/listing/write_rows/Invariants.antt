@@ -1,6 +1,6 @@
 use Rattle.std.proofs.Common.{◌≡◌, ◌++◌, ◌≤◌, ℕ, List, drop}
 use Rattle.std.specs.Io.KnownBytes.{Appends}
-use Rattle.ucos_top.specs.Listing.{numbered}
+use Rattle.program_model.specs.Listing.{numbered}
 use Rattle.ucos_top.proofs.listing.write_rows.Given as goal
 
 -- the rows so far are written, and the rest of the text is that of the rows that are left

@@ -10,7 +10,7 @@ use Rattle.machine_model.specs.Run.{run_text}
 use Rattle.machine_model.specs.Text.{event_text, end_line}
 use Rattle.machine_model.proofs.CountLaws.{t-next}
 use Rattle.machine_model.proofs.RunLaws.{printed_nothing, printed_more, printed_all}
-use Rattle.ucos_top.specs.Answer.{printed}
+use Rattle.program_model.specs.Answer.{printed}
 use Rattle.ucos_top.proofs.text.write_run.Goals as goal
 
 pub running-init : goal.running-init
@@ -27,23 +27,23 @@ running-preserved g c =
     let (front, written, printed) = c.running.invariant.written in
     let state = c.running.machine in
     let open_yet : state.t < c.args.count = omega (arith, c.running-test.true, c.task_steps.ensures) in
-    let falls : events_left c.args.count (next program_serves Direct state).1 < events_left c.args.count state = rw c.step-event.ensures.machine at (c.step-event.ensures.fewer c.args.count open_yet) in
+    let falls : events_left c.args.count (next program_serves Direct state).1 < events_left c.args.count state = rw c.step_into.ensures.machine at (c.step_into.ensures.fewer c.args.count open_yet) in
     let some : 0 < events_left c.args.count state = omega (arith, falls) in
-    let said = rw c.step-event.ensures.event at c.in_ok-write_event.ensures.bytes in
+    let said = rw c.step_into.ensures.event at c.in_ok-write_event.ensures.bytes in
     record {
       written = (
         front ++ event_text c.args.image.now (next program_serves Direct state).0,
         Appends-trans _ _ _ front _ written said,
         λ list e.
-            rw c.step-event.ensures.machine ((printed_more program_serves Direct c.args.image.now list c.args.count front state (printed list e) open_yet some).printed falls),
+            rw c.step_into.ensures.machine ((printed_more program_serves Direct c.args.image.now list c.args.count front state (printed list e) open_yet some).printed falls),
       );
-      within = rw c.step-event.ensures.machine (omega (arith, t-next program_serves Direct state, open_yet));
+      within = rw c.step_into.ensures.machine (omega (arith, t-next program_serves Direct state, open_yet));
       bound = c.running.invariant.bound;
       later = omega (arith, c.running.invariant.later, c.in_ok-write_event.ensures.cause.later);
     }
 
 pub running-smaller : goal.running-smaller
-running-smaller g c = c.step-event.ensures.fewer c.args.count (omega (arith, c.running-test.true, c.task_steps.ensures))
+running-smaller g c = c.step_into.ensures.fewer c.args.count (omega (arith, c.running-test.true, c.task_steps.ensures))
 
 -- a prefix of what the event prints is written, behind what was printed before
 pub returns-in_err-write_event-clause-bytes : goal.returns-in_err-write_event-clause-bytes
@@ -53,10 +53,10 @@ returns-in_err-write_event-clause-bytes g c = λ list e.
     let (front, written, printed) = c.running.invariant.written in
     let state = c.running.machine in
     let open_yet : state.t < c.args.count = omega (arith, c.running-test.true, c.task_steps.ensures) in
-    let falls : events_left c.args.count (next program_serves Direct state).1 < events_left c.args.count state = rw c.step-event.ensures.machine at (c.step-event.ensures.fewer c.args.count open_yet) in
+    let falls : events_left c.args.count (next program_serves Direct state).1 < events_left c.args.count state = rw c.step_into.ensures.machine at (c.step_into.ensures.fewer c.args.count open_yet) in
     let some : 0 < events_left c.args.count state = omega (arith, falls) in
     let next_one = printed_more program_serves Direct c.args.image.now list c.args.count front state (printed list e) open_yet some in
-    let said = rw c.step-event.ensures.event at c.in_err-write_event.ensures.bytes in
+    let said = rw c.step_into.ensures.event at c.in_err-write_event.ensures.bytes in
     rw p.1 (AppendsPrefix-after (g.K.Sink.held c.args.sink.now) (g.K.Sink.held c.running.sink) (g.K.Sink.held c.write_event.new.sink)
     front (event_text c.args.image.now (next program_serves Direct state).0) next_one.rest (run_text program_serves Direct c.args.image.now list c.args.count) written said next_one.follows)
 

@@ -1,5 +1,5 @@
 use Rattle.std.proofs.Common.{◌≡◌}
-use Rattle.ucos_top.specs.Case.{Accepts, case_of}
+use Rattle.program_model.specs.Case.{Accepts, case_of}
 use Rattle.ucos_top.proofs.top.obey.Goals as goal
 
 -- what was written is a prefix of what the case has to print

@@ -1,7 +1,7 @@
 use Rattle.std.proofs.Common.{◌≡◌, Some}
 use Rattle.outside.specs.Causes.{DidNotRise}
-use Rattle.ucos_top.specs.Words.{command_of, texts}
-use Rattle.ucos_top.specs.Answer.{Reads}
+use Rattle.program_model.specs.Words.{command_of, texts}
+use Rattle.program_model.specs.Answer.{Reads}
 use Rattle.ucos_top.specs.Told.{IsEarly, OrNoMemory}
 use Rattle.ucos_top.proofs.TopLemmas.{told_answer}
 use Rattle.ucos_top.proofs.top.ucos_main.Goals as goal

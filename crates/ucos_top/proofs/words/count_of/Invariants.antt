@@ -1,7 +1,7 @@
 use Rattle.std.proofs.Common.{◌≡◌, ◌^◌, ◌<◌, ◌≤◌, drop, length}
 use Rattle.std.specs.Char.{is_ascii_digit}
 use Rattle.std.specs.List.{list_all}
-use Rattle.ucos_top.specs.Words.{value_of}
+use Rattle.program_model.specs.Words.{value_of}
 use Rattle.ucos_top.proofs.words.count_of.Given as goal
 
 -- the bytes so far are digits, of this value

@@ -1,21 +1,21 @@
 -- The defined answer of a command on an input: a status, and the bytes to write.
 use Rattle.std.specs.Prelude.{ℕ, List, [], length, nat_lt, Option, None, Some, if◌then◌else◌}
 use Rattle.std.specs.Option.{option_map}
-use Rattle.ucos_top.specs.declared.TheConstants.{INPUT_LIMIT}
-use Rattle.ucos_top.specs.declared.Status.{Status}
-use Rattle.ucos_top.specs.declared.Status.TheVariants as status
-use Rattle.ucos_top.specs.declared.words.Command.{Command}
-use Rattle.ucos_top.specs.declared.words.Command.TheVariants.{Run, Listing, Binary}
+use Rattle.program_model.specs.Limits.{longest_input}
+use Rattle.program_model.specs.declared.statuses.Status.{Status}
+use Rattle.program_model.specs.declared.statuses.Status.TheVariants as status
+use Rattle.program_model.specs.declared.commands.Command.{Command}
+use Rattle.program_model.specs.declared.commands.Command.TheVariants.{Run, Listing, Binary}
 use Rattle.kern_base.specs.declared.kinds.Method.TheVariants.{Direct}
 use Rattle.kern_model.specs.Services.{program_serves}
 use Rattle.app_image.specs.Image.{ImageRecord}
 use Rattle.app_image.specs.Layout.{layout}
 use Rattle.inject_list.specs.Lists.{ListRecord}
 use Rattle.machine_model.specs.Run.{run_text}
-use Rattle.ucos_top.specs.Case.{Case, Accepts, Refuses, case_of}
-use Rattle.ucos_top.specs.Listing.{listing}
-use Rattle.ucos_top.specs.Refusals.{refusal_line}
-use Rattle.ucos_top.specs.Words.{command_of}
+use Rattle.program_model.specs.Case.{Case, Accepts, Refuses, case_of}
+use Rattle.program_model.specs.Listing.{listing}
+use Rattle.program_model.specs.Refusals.{refusal_line}
+use Rattle.program_model.specs.Words.{command_of}
 
 pub record Answer : Type 0 where
   pub status : Status
@@ -39,7 +39,7 @@ case_answer command (Accepts image l) = record { status = status.Done; text = ac
 -- of a command on an input
 abbrev pub command_answer : Option Command → List ℕ → Answer
 command_answer None input = record { status = status.Usage; text = [] }
-command_answer (Some command) input = if nat_lt INPUT_LIMIT (length input) then record { status = status.TooLong; text = [] } else case_answer command (case_of input)
+command_answer (Some command) input = if nat_lt longest_input (length input) then record { status = status.TooLong; text = [] } else case_answer command (case_of input)
 
 -- of the words on an input
 abbrev pub answer : List (List ℕ) → List ℕ → Answer

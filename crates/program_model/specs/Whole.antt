@@ -6,19 +6,19 @@ use Rattle.kern_base.specs.declared.services.Service.{Service}
 use Rattle.app_image.specs.Image.{ImageRecord}
 use Rattle.app_image.specs.Layout.{layout}
 use Rattle.inject_list.specs.Lists.{ListRecord}
-use Rattle.case_gen.specs.Generated.{generated, steps_for}
+use Rattle.program_model.specs.Generated.{generated, steps_for}
 use Rattle.machine_model.specs.declared.events.Event.{Event}
 use Rattle.machine_model.specs.declared.events.What.{What}
 use Rattle.machine_model.specs.declared.events.What.TheVariants.{Call}
 use Rattle.machine_model.specs.Text.{in_history}
 use Rattle.machine_model.specs.Run.{Run, run, run_text, history}
 use Rattle.machine_model.specs.Premises.{premise_lines, is_broken}
-use Rattle.ucos_top.specs.declared.TheConstants.{INPUT_LIMIT}
-use Rattle.ucos_top.specs.Commands.{AnyCommand, any_command}
-use Rattle.ucos_top.specs.Commands as command
-use Rattle.ucos_top.specs.Listing.{line, listing}
-use Rattle.ucos_top.specs.Case.{Case, Accepts, Refuses, whole_case}
-use Rattle.ucos_top.specs.Refusals.{refusal_line}
+use Rattle.program_model.specs.Limits.{longest_input}
+use Rattle.program_model.specs.Commands.{AnyCommand, any_command}
+use Rattle.program_model.specs.Commands as command
+use Rattle.program_model.specs.Listing.{line, listing}
+use Rattle.program_model.specs.Case.{Case, Accepts, Refuses, whole_case}
+use Rattle.program_model.specs.Refusals.{refusal_line}
 
 -- the statuses that an answer may have
 pub data AnyStatus : Type 0 where
@@ -103,7 +103,7 @@ module _ (served : Service → Bool) where
 
   -- of a command on an input that it reads
   abbrev pub input_answer : AnyCommand → List ℕ → WholeAnswer
-  input_answer c input = if nat_lt INPUT_LIMIT (length input) then answers TooLong [] else case_answer c (whole_case input)
+  input_answer c input = if nat_lt longest_input (length input) then answers TooLong [] else case_answer c (whole_case input)
 
   -- of a command on an input; a generated case is made from its seed and size, and nothing is read
   abbrev pub command_answer : Option AnyCommand → List ℕ → WholeAnswer

@@ -19,8 +19,8 @@ use Rattle.inject_list.specs.Lists.{ListRecord}
 use Rattle.inject_list.specs.Pieces.{Piece, Word, piece_of, lines}
 use Rattle.inject_list.specs.Stage.{Reading, injections_in}
 use Rattle.inject_list.specs.Stage as inject
-use Rattle.ucos_top.specs.declared.causes.CaseCause.{CaseCause}
-use Rattle.ucos_top.specs.declared.causes.CaseCause.TheVariants.{BadByte, NumberTooLarge, OfText, OfImage, OfInjection, Look}
+use Rattle.program_model.specs.declared.causes.CaseCause.{CaseCause}
+use Rattle.program_model.specs.declared.causes.CaseCause.TheVariants.{BadByte, NumberTooLarge, OfText, OfImage, OfInjection, Look}
 
 -- a case with this image and this list, or one that is refused at a line for a cause
 pub data Case : Type 0 where

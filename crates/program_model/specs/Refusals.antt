@@ -3,8 +3,8 @@ use Rattle.std.specs.Prelude.{ℕ, List, ◌++◌, codes, decimal}
 use Rattle.app_image.specs.CauseNumbers as image
 use Rattle.rv32_asm.specs.Refusal as asm
 use Rattle.inject_list.specs.Stage as inject
-use Rattle.ucos_top.specs.declared.causes.CaseCause.{CaseCause}
-use Rattle.ucos_top.specs.declared.causes.CaseCause.TheVariants.{BadByte, NumberTooLarge, OfText, OfImage, OfInjection, Look}
+use Rattle.program_model.specs.declared.causes.CaseCause.{CaseCause}
+use Rattle.program_model.specs.declared.causes.CaseCause.TheVariants.{BadByte, NumberTooLarge, OfText, OfImage, OfInjection, Look}
 
 -- the letter of the stage that refuses: L for the tokens, A for the assembler, I for the image, J for the injections, X for
 -- what is not built

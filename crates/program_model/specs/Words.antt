@@ -6,9 +6,9 @@ use Rattle.std.specs.Str.{bytes_eq}
 use Rattle.std.specs.String.{string_bytes}
 use Rattle.std.specs.declared.string.String.{String}
 use Rattle.std.specs.declared.alloc.Global.{Global}
-use Rattle.ucos_top.specs.declared.TheConstants.{COUNT_LIMIT}
-use Rattle.ucos_top.specs.declared.words.Command.{Command}
-use Rattle.ucos_top.specs.declared.words.Command.TheVariants.{Run, Listing, Binary}
+use Rattle.program_model.specs.Limits.{most_task_steps}
+use Rattle.program_model.specs.declared.commands.Command.{Command}
+use Rattle.program_model.specs.declared.commands.Command.TheVariants.{Run, Listing, Binary}
 
 -- the value of decimal digits behind a front of this value
 abbrev pub value_of : ℕ → List ℕ → ℕ
@@ -17,7 +17,7 @@ value_of front (digit ∷ digits) = value_of (front * 10 + (digit - 48)) digits
 
 -- one to seven decimal digits, of a value of at most 1,000,000
 abbrev pub is_count : List ℕ → Bool
-is_count word = nat_le 1 (length word) && (nat_le (length word) 7 && (list_all is_ascii_digit word && nat_le (value_of 0 word) COUNT_LIMIT))
+is_count word = nat_le 1 (length word) && (nat_le (length word) 7 && (list_all is_ascii_digit word && nat_le (value_of 0 word) most_task_steps))
 
 -- the number of task steps that a word asks for
 abbrev pub count_word : List ℕ → Option ℕ

@@ -1,0 +1,13 @@
+pub mod Limits
+pub mod Words
+pub mod Commands
+pub mod Application
+pub mod Draws
+pub mod Generated
+pub mod Case
+pub mod Refusals
+pub mod Listing
+pub mod Statuses
+pub mod Answer
+pub mod Ends
+pub mod Whole

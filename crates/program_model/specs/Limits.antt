@@ -1,0 +1,22 @@
+-- The limits of what is read, asked for and generated.
+use Rattle.std.specs.Prelude.{◌≤◌, ℕ}
+use Rattle.program_model.specs.declared.commands.Command.{Command}
+use Rattle.program_model.specs.declared.commands.Command.TheVariants.{Run, Listing, Binary}
+
+-- the longest input that is read, in bytes
+abbrev pub longest_input : ℕ
+longest_input = 4194304
+
+-- the most task steps that a run may be asked for
+abbrev pub most_task_steps : ℕ
+most_task_steps = 1000000
+
+-- the most lines of interrupts that a generated case may have
+abbrev pub most_lines : ℕ
+most_lines = 16384
+
+-- a run has at most 1,000,000 task steps
+abbrev pub IsWithinLimit : Command → Type 0
+IsWithinLimit (Run count) = count ≤ most_task_steps
+IsWithinLimit Listing = Unit {0}
+IsWithinLimit Binary = Unit {0}
