@@ -1,4 +1,4 @@
-ghost use Rattle.std.specs.Prelude.{◌≡◌, ◌+◌, ◌-◌, ◌<◌, ◌≤◌, ◌↔◌, List, [], ◌++◌, ℕ, length, take, drop, min, Contains, IsErr, IsOk, IsTrue, IfOk, Some, vec_len, vec_capacity};
+ghost use Rattle.std.specs.Prelude.{◌≡◌, ◌+◌, ◌-◌, ◌<◌, ◌≤◌, ◌↔◌, List, [], ◌++◌, ℕ, length, take, drop, min, Contains, IsErr, IsOk, IsTrue, IfOk, MatchResult, Some, vec_len, vec_capacity};
 ghost use Rattle.std.specs.Io.{ReadsAtMost};
 ghost use Rattle.std.specs.Io.KnownBytes.{ReadConsumes};
 ghost use Rattle.outside.specs.Causes.{HasCause};
@@ -92,6 +92,7 @@ impl Source for MemSource {
         ensures bound { ReadsAtMost result buf.new }
         ensures bytes { ReadConsumes (Some self.old.left) (Some self.new.left) result buf.new }
         ensures cause { HasCause self.old.faults self.new.faults result }
+        ensures count { MatchResult result (λ _. self.new.faults ≡ self.old.faults) (λ _. self.new.faults ≡ counted self.old.faults) }
         ensures fails { IsErr result ↔ Contains self.old.fails (self.old.calls + 1) }
         ensures gives { IfOk result (λ n. n ≡ min (length self.old.left) (min (length buf.old) self.old.piece)) }
         ensures calls { self.new.calls ≡ counted self.old.calls }
@@ -205,6 +206,7 @@ impl Sink for MemSink {
     fn write(&mut self, piece: &[u8]) -> Result<(), Failed>
         ensures bytes { WritesPiece (Some self.old.held) (Some self.new.held) result piece.now }
         ensures cause { HasCause self.old.faults self.new.faults result }
+        ensures count { MatchResult result (λ _. self.new.faults ≡ self.old.faults) (λ _. self.new.faults ≡ counted self.old.faults) }
         ensures succeeds { IsOk result ↔ Succeeds (limit_at self.old.fails (self.old.calls + 1)) (length piece.now) (self.old.capacity - length self.old.held) }
         ensures takes { self.new.held ≡ self.old.held ++ take (taken (limit_at self.old.fails (self.old.calls + 1)) (length piece.now) (self.old.capacity - length self.old.held)) piece.now }
         ensures calls { self.new.calls ≡ counted self.old.calls }

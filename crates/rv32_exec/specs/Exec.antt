@@ -2,7 +2,6 @@
 -- Multiplication and Division"), over whole numbers modulo 2 ^ 32.
 use Rattle.std.specs.Prelude.{ℕ, ◌-◌, ◌*◌, ◌/◌, ◌%◌, ◌^◌, ◌≡◌, ℤ, Bool, not, ◌==◌, if◌then◌else◌, Option, Some, None, List, slice_get, bit_and, bit_or, bit_xor}
 use Rattle.rv32_isa.specs.Formats.{unsigned}
-use Rattle.rv32_isa.specs.Listing.{IsOperationForm}
 use Rattle.rv32_isa.specs.Decoded.{decoded}
 use Rattle.rv32_isa.specs.declared.Instr.{Instr}
 use Rattle.rv32_isa.specs.declared.Instr.TheVariants.{Lui, Auipc, Jal, Jalr, Beq, Bne, Blt, Bge, Bltu, Bgeu, Lb, Lh, Lw, Lbu, Lhu, Sb, Sh, Sw, Addi, Slti, Sltiu, Xori, Ori, Andi, Slli, Srli, Srai, Add, Sub, Sll, Slt, Sltu, Xor, Srl, Sra, Or, And, Fence, Ecall, Ebreak, Mul, Mulh, Mulhsu, Mulhu, Div, Divu, Rem, Remu}
@@ -151,27 +150,3 @@ runs (Some word) regs memory = obeys (decoded word) regs memory
 -- one instruction of the code
 abbrev pub exec : List ℕ → Registers → List ℕ → Execution
 exec code regs memory = runs (fetched code regs.pc) regs memory
-
--- a multiplication or a division
-abbrev pub IsMultiplication : Instr → Type 0
-IsMultiplication (Mul _ _ _) = Unit {0}
-IsMultiplication (Mulh _ _ _) = Unit {0}
-IsMultiplication (Mulhsu _ _ _) = Unit {0}
-IsMultiplication (Mulhu _ _ _) = Unit {0}
-IsMultiplication (Div _ _ _) = Unit {0}
-IsMultiplication (Divu _ _ _) = Unit {0}
-IsMultiplication (Rem _ _ _) = Unit {0}
-IsMultiplication (Remu _ _ _) = Unit {0}
-IsMultiplication _ = ⊥
-
--- a load, a store or an operation
-abbrev pub IsAccessOrOperation : Instr → Type 0
-IsAccessOrOperation (Lb _ _ _) = Unit {0}
-IsAccessOrOperation (Lh _ _ _) = Unit {0}
-IsAccessOrOperation (Lw _ _ _) = Unit {0}
-IsAccessOrOperation (Lbu _ _ _) = Unit {0}
-IsAccessOrOperation (Lhu _ _ _) = Unit {0}
-IsAccessOrOperation (Sb _ _ _) = Unit {0}
-IsAccessOrOperation (Sh _ _ _) = Unit {0}
-IsAccessOrOperation (Sw _ _ _) = Unit {0}
-IsAccessOrOperation instr = IsOperationForm instr

@@ -1,10 +1,14 @@
 -- The registers of a hart (RISC-V Unprivileged ISA, "Programmers' Model for Base Integer ISA").
-use Rattle.std.specs.Prelude.{ℕ, zero, suc, ◌<◌, ◌^◌, ◌≡◌, List, length, slice_index, slice_set}
+use Rattle.std.specs.Prelude.{ℕ, zero, suc, ◌<◌, ◌^◌, ◌≡◌, List, length, replicate, slice_index, slice_set}
 
 -- the address of the next instruction, and x0 to x31
 pub record Registers : Type 0 where
   pub pc : ℕ
   pub x : List ℕ
+
+-- registers that are all 0
+abbrev pub no_registers : Registers
+no_registers = record { pc = 0; x = replicate 32 0 }
 
 -- x0 reads 0
 abbrev pub read : Registers → ℕ → ℕ

@@ -1,14 +1,20 @@
 // One instruction of RV32IM on registers and RAM (RISC-V Unprivileged ISA, RV32I and the extension M).
 #![tactic(auto)]
 
+mod laws;
 mod memory;
+mod programs;
 mod registers;
 mod running;
 #[cfg(test)]
 mod tests;
 mod words;
 
+pub use laws::{
+    a_store_changes_its_own_bytes, an_instruction_changes_what_it_tells, an_instruction_keeps_words,
+};
 pub use memory::{NoMemory, Ram};
+pub use programs::Program;
 pub use registers::Regs;
 pub use running::step;
 

@@ -13,7 +13,7 @@ const RAM_END: u32 = 0x0014_0000;
 
 const RAM_WORDS: usize = 65536;
 
-/// There was not enough memory for the RAM.
+/// There was not enough memory for the RAM or the code.
 #[derive(Debug, Clone, Copy, PartialEq, Eq)]
 pub struct NoMemory;
 

@@ -1,13 +1,13 @@
 // One instruction.
 
 ghost use Rattle.std.specs.Prelude.{◌≡◌, ◌<◌, ◌≤◌, ◌+◌, ◌-◌, ◌*◌, ◌/◌, ◌%◌, ◌^◌, ℕ, List, IfSome, slice_get, bit_and, bit_or, bit_xor};
-ghost use Rattle.rv32_isa.specs.Listing.{IsInRange, IsOperationForm, IsRegisterForm};
+ghost use Rattle.rv32_isa.specs.Listing.{IsInRange};
 ghost use Rattle.rv32_isa.specs.Decoded.{decoded};
 ghost use Rattle.rv32_isa.specs.Formats.{unsigned};
 ghost use Rattle.rv32_exec.specs.Registers.{IsRegisters, read, written};
 ghost use Rattle.rv32_exec.specs.Memory.{IsMemory, IsWidth, IsPartWidth};
 ghost use Rattle.rv32_exec.specs.Words.{sum};
-ghost use Rattle.rv32_exec.specs.Exec.{IsExecution, IsOutcome, traps, goes_on, computes, links, branches, loads, loads_signed, stores, acts, fetched, exec, IsAccessOrOperation, IsMultiplication};
+ghost use Rattle.rv32_exec.specs.Exec.{IsExecution, IsOutcome, traps, goes_on, computes, links, branches, loads, loads_signed, stores, acts, fetched, exec};
 
 use crate::memory::allows;
 use crate::words::{
@@ -18,13 +18,14 @@ use crate::{Ram, Regs, Stepped, TrapKind};
 use rv32_isa::{Instr, decode};
 
 // Nothing changed.
-fn trap(kind: TrapKind, regs: &Regs) -> Stepped
+pub(crate) fn trap(kind: TrapKind, regs: &Regs) -> Stepped
     ensures { IsOutcome regs.now result (traps kind regs.now) }
 {
     Stepped::Trap(kind, regs.pc())
 }
 
 // On to the next word.
+#[inline(always)]
 fn go_on(regs: &mut Regs)
     ensures { regs.new ≡ record regs.old { pc = sum regs.old.pc 4 } }
 {
@@ -32,6 +33,7 @@ fn go_on(regs: &mut Regs)
 }
 
 // A value into a register, and on.
+#[inline(always)]
 fn compute(rd: u8, value: u32, regs: &mut Regs) -> Stepped
     requires { rd < 32 }
     ensures { IsOutcome regs.new result (computes rd value regs.old) }
@@ -42,6 +44,7 @@ fn compute(rd: u8, value: u32, regs: &mut Regs) -> Stepped
 }
 
 // A jump that writes the address of the next word into a register.
+#[inline(always)]
 fn link(rd: u8, target: u32, regs: &mut Regs) -> Stepped
     requires { rd < 32 }
     ensures { IsOutcome regs.new result (links rd target regs.old) }
@@ -55,6 +58,7 @@ fn link(rd: u8, target: u32, regs: &mut Regs) -> Stepped
 }
 
 // A jump where the test holds.
+#[inline(always)]
 fn branch(taken: bool, imm: i32, regs: &mut Regs) -> Stepped
     ensures { IsOutcome regs.new result (branches taken imm regs.old) }
 {
@@ -71,6 +75,7 @@ fn branch(taken: bool, imm: i32, regs: &mut Regs) -> Stepped
 }
 
 // So many bytes from the RAM into a register, with zeros above them.
+#[inline(always)]
 fn load(width: u32, rd: u8, addr: u32, regs: &mut Regs, ram: &Ram) -> Stepped
     requires register { rd < 32 }
     requires width { IsWidth width }
@@ -83,6 +88,7 @@ fn load(width: u32, rd: u8, addr: u32, regs: &mut Regs, ram: &Ram) -> Stepped
 }
 
 // So many bytes from the RAM into a register, with their sign copied.
+#[inline(always)]
 fn load_signed(width: u32, rd: u8, addr: u32, regs: &mut Regs, ram: &Ram) -> Stepped
     requires register { rd < 32 }
     requires part { IsPartWidth width }
@@ -95,6 +101,7 @@ fn load_signed(width: u32, rd: u8, addr: u32, regs: &mut Regs, ram: &Ram) -> Ste
 }
 
 // The low bytes of a word into the RAM.
+#[inline(always)]
 fn store(width: u8, addr: u32, word: u32, regs: &mut Regs, ram: &mut Ram) -> Stepped
     requires { IsWidth width }
     ensures { IsExecution regs.new ram.new result (stores width addr word regs.old ram.old) }
@@ -109,6 +116,7 @@ fn store(width: u8, addr: u32, word: u32, regs: &mut Regs, ram: &mut Ram) -> Ste
 }
 
 // The sum of a register and an immediate.
+#[inline(always)]
 fn address(rs1: u8, imm: i32, regs: &Regs) -> u32
     requires { rs1 < 32 }
     ensures { result ≡ sum (read regs.now rs1) (unsigned imm) }
@@ -116,143 +124,9 @@ fn address(rs1: u8, imm: i32, regs: &Regs) -> u32
     regs.get(rs1).wrapping_add(imm.cast_unsigned())
 }
 
-// A multiplication or a division.
-fn multiply(instr: Instr, regs: &mut Regs) -> Stepped
-    requires range { IsInRange instr }
-    requires form { IsMultiplication instr }
-    ensures { (memory : List ℕ) → IsExecution regs.new memory result (acts instr regs.old memory) }
-{
-    match instr {
-        Instr::Mul { rd, rs1, rs2 } => compute(rd, regs.get(rs1).wrapping_mul(regs.get(rs2)), regs),
-        Instr::Mulh { rd, rs1, rs2 } => compute(
-            rd,
-            high_product(long(regs.get(rs1)), long(regs.get(rs2))),
-            regs,
-        ),
-        Instr::Mulhsu { rd, rs1, rs2 } => compute(
-            rd,
-            high_product(long(regs.get(rs1)), u64::from(regs.get(rs2))),
-            regs,
-        ),
-        Instr::Mulhu { rd, rs1, rs2 } => compute(
-            rd,
-            high_product(u64::from(regs.get(rs1)), u64::from(regs.get(rs2))),
-            regs,
-        ),
-        Instr::Div { rd, rs1, rs2 } => compute(
-            rd,
-            quotient_signed(regs.get(rs1), regs.get(rs2)),
-            regs,
-        ),
-        Instr::Divu { rd, rs1, rs2 } => compute(rd, quotient(regs.get(rs1), regs.get(rs2)), regs),
-        Instr::Rem { rd, rs1, rs2 } => compute(
-            rd,
-            remainder_signed(regs.get(rs1), regs.get(rs2)),
-            regs,
-        ),
-        Instr::Remu { rd, rs1, rs2 } => compute(rd, remainder(regs.get(rs1), regs.get(rs2)), regs),
-        _ => unreachable!(),
-    }
-}
-
-// An operation on two registers.
-fn operate(instr: Instr, regs: &mut Regs) -> Stepped
-    requires range { IsInRange instr }
-    requires form { IsRegisterForm instr }
-    ensures { (memory : List ℕ) → IsExecution regs.new memory result (acts instr regs.old memory) }
-{
-    match instr {
-        Instr::Add { rd, rs1, rs2 } => compute(rd, regs.get(rs1).wrapping_add(regs.get(rs2)), regs),
-        Instr::Sub { rd, rs1, rs2 } => compute(rd, regs.get(rs1).wrapping_sub(regs.get(rs2)), regs),
-        Instr::Sll { rd, rs1, rs2 } => compute(
-            rd,
-            shifted_left(regs.get(rs1), regs.get(rs2)),
-            regs,
-        ),
-        Instr::Slt { rd, rs1, rs2 } => compute(
-            rd,
-            u32::from(less_signed(regs.get(rs1), regs.get(rs2))),
-            regs,
-        ),
-        Instr::Sltu { rd, rs1, rs2 } => compute(rd, u32::from(regs.get(rs1) < regs.get(rs2)), regs),
-        Instr::Xor { rd, rs1, rs2 } => compute(rd, regs.get(rs1) ^ regs.get(rs2), regs),
-        Instr::Srl { rd, rs1, rs2 } => compute(rd, regs.get(rs1) >> (regs.get(rs2) % 32), regs),
-        Instr::Sra { rd, rs1, rs2 } => compute(
-            rd,
-            shifted_right_signed(regs.get(rs1), regs.get(rs2)),
-            regs,
-        ),
-        Instr::Or { rd, rs1, rs2 } => compute(rd, regs.get(rs1) | regs.get(rs2), regs),
-        Instr::And { rd, rs1, rs2 } => compute(rd, regs.get(rs1) & regs.get(rs2), regs),
-        _ => multiply(instr, regs),
-    }
-}
-
-// An operation on a register and an immediate, or on two registers.
-fn operate_immediate(instr: Instr, regs: &mut Regs) -> Stepped
-    requires range { IsInRange instr }
-    requires form { IsOperationForm instr }
-    ensures { (memory : List ℕ) → IsExecution regs.new memory result (acts instr regs.old memory) }
-{
-    match instr {
-        Instr::Addi { rd, rs1, imm } => compute(
-            rd,
-            regs.get(rs1).wrapping_add(imm.cast_unsigned()),
-            regs,
-        ),
-        Instr::Slti { rd, rs1, imm } => compute(
-            rd,
-            u32::from(less_signed(regs.get(rs1), imm.cast_unsigned())),
-            regs,
-        ),
-        Instr::Sltiu { rd, rs1, imm } => compute(
-            rd,
-            u32::from(regs.get(rs1) < imm.cast_unsigned()),
-            regs,
-        ),
-        Instr::Xori { rd, rs1, imm } => compute(rd, regs.get(rs1) ^ imm.cast_unsigned(), regs),
-        Instr::Ori { rd, rs1, imm } => compute(rd, regs.get(rs1) | imm.cast_unsigned(), regs),
-        Instr::Andi { rd, rs1, imm } => compute(rd, regs.get(rs1) & imm.cast_unsigned(), regs),
-        Instr::Slli { rd, rs1, imm } => compute(
-            rd,
-            shifted_left(regs.get(rs1), imm.cast_unsigned()),
-            regs,
-        ),
-        Instr::Srli { rd, rs1, imm } => compute(
-            rd,
-            regs.get(rs1) >> (imm.cast_unsigned() % 32),
-            regs,
-        ),
-        Instr::Srai { rd, rs1, imm } => compute(
-            rd,
-            shifted_right_signed(regs.get(rs1), imm.cast_unsigned()),
-            regs,
-        ),
-        _ => operate(instr, regs),
-    }
-}
-
-// A load or a store, or an operation.
-fn access(instr: Instr, regs: &mut Regs, ram: &mut Ram) -> Stepped
-    requires range { IsInRange instr }
-    requires form { IsAccessOrOperation instr }
-    ensures { IsExecution regs.new ram.new result (acts instr regs.old ram.old) }
-{
-    match instr {
-        Instr::Lb { rd, rs1, imm } => load_signed(1, rd, address(rs1, imm, regs), regs, ram),
-        Instr::Lh { rd, rs1, imm } => load_signed(2, rd, address(rs1, imm, regs), regs, ram),
-        Instr::Lw { rd, rs1, imm } => load(4, rd, address(rs1, imm, regs), regs, ram),
-        Instr::Lbu { rd, rs1, imm } => load(1, rd, address(rs1, imm, regs), regs, ram),
-        Instr::Lhu { rd, rs1, imm } => load(2, rd, address(rs1, imm, regs), regs, ram),
-        Instr::Sb { rs1, rs2, imm } => store(1, address(rs1, imm, regs), regs.get(rs2), regs, ram),
-        Instr::Sh { rs1, rs2, imm } => store(2, address(rs1, imm, regs), regs.get(rs2), regs, ram),
-        Instr::Sw { rs1, rs2, imm } => store(4, address(rs1, imm, regs), regs.get(rs2), regs, ram),
-        _ => operate_immediate(instr, regs),
-    }
-}
-
-// An instruction.
-fn act(instr: Instr, regs: &mut Regs, ram: &mut Ram) -> Stepped
+// An instruction: one table of all of them, so that a step is one jump.
+#[inline(always)]
+pub(crate) fn act(instr: Instr, regs: &mut Regs, ram: &mut Ram) -> Stepped
     requires { IsInRange instr }
     ensures { IsExecution regs.new ram.new result (acts instr regs.old ram.old) }
 {
@@ -291,7 +165,97 @@ fn act(instr: Instr, regs: &mut Regs, ram: &mut Ram) -> Stepped
             Stepped::Call
         }
         Instr::Ebreak => trap(TrapKind::Break, regs),
-        _ => access(instr, regs, ram),
+        Instr::Lb { rd, rs1, imm } => load_signed(1, rd, address(rs1, imm, regs), regs, ram),
+        Instr::Lh { rd, rs1, imm } => load_signed(2, rd, address(rs1, imm, regs), regs, ram),
+        Instr::Lw { rd, rs1, imm } => load(4, rd, address(rs1, imm, regs), regs, ram),
+        Instr::Lbu { rd, rs1, imm } => load(1, rd, address(rs1, imm, regs), regs, ram),
+        Instr::Lhu { rd, rs1, imm } => load(2, rd, address(rs1, imm, regs), regs, ram),
+        Instr::Sb { rs1, rs2, imm } => store(1, address(rs1, imm, regs), regs.get(rs2), regs, ram),
+        Instr::Sh { rs1, rs2, imm } => store(2, address(rs1, imm, regs), regs.get(rs2), regs, ram),
+        Instr::Sw { rs1, rs2, imm } => store(4, address(rs1, imm, regs), regs.get(rs2), regs, ram),
+        Instr::Addi { rd, rs1, imm } => compute(
+            rd,
+            regs.get(rs1).wrapping_add(imm.cast_unsigned()),
+            regs,
+        ),
+        Instr::Slti { rd, rs1, imm } => compute(
+            rd,
+            u32::from(less_signed(regs.get(rs1), imm.cast_unsigned())),
+            regs,
+        ),
+        Instr::Sltiu { rd, rs1, imm } => compute(
+            rd,
+            u32::from(regs.get(rs1) < imm.cast_unsigned()),
+            regs,
+        ),
+        Instr::Xori { rd, rs1, imm } => compute(rd, regs.get(rs1) ^ imm.cast_unsigned(), regs),
+        Instr::Ori { rd, rs1, imm } => compute(rd, regs.get(rs1) | imm.cast_unsigned(), regs),
+        Instr::Andi { rd, rs1, imm } => compute(rd, regs.get(rs1) & imm.cast_unsigned(), regs),
+        Instr::Slli { rd, rs1, imm } => compute(
+            rd,
+            shifted_left(regs.get(rs1), imm.cast_unsigned()),
+            regs,
+        ),
+        Instr::Srli { rd, rs1, imm } => compute(
+            rd,
+            regs.get(rs1) >> (imm.cast_unsigned() % 32),
+            regs,
+        ),
+        Instr::Srai { rd, rs1, imm } => compute(
+            rd,
+            shifted_right_signed(regs.get(rs1), imm.cast_unsigned()),
+            regs,
+        ),
+        Instr::Add { rd, rs1, rs2 } => compute(rd, regs.get(rs1).wrapping_add(regs.get(rs2)), regs),
+        Instr::Sub { rd, rs1, rs2 } => compute(rd, regs.get(rs1).wrapping_sub(regs.get(rs2)), regs),
+        Instr::Sll { rd, rs1, rs2 } => compute(
+            rd,
+            shifted_left(regs.get(rs1), regs.get(rs2)),
+            regs,
+        ),
+        Instr::Slt { rd, rs1, rs2 } => compute(
+            rd,
+            u32::from(less_signed(regs.get(rs1), regs.get(rs2))),
+            regs,
+        ),
+        Instr::Sltu { rd, rs1, rs2 } => compute(rd, u32::from(regs.get(rs1) < regs.get(rs2)), regs),
+        Instr::Xor { rd, rs1, rs2 } => compute(rd, regs.get(rs1) ^ regs.get(rs2), regs),
+        Instr::Srl { rd, rs1, rs2 } => compute(rd, regs.get(rs1) >> (regs.get(rs2) % 32), regs),
+        Instr::Sra { rd, rs1, rs2 } => compute(
+            rd,
+            shifted_right_signed(regs.get(rs1), regs.get(rs2)),
+            regs,
+        ),
+        Instr::Or { rd, rs1, rs2 } => compute(rd, regs.get(rs1) | regs.get(rs2), regs),
+        Instr::And { rd, rs1, rs2 } => compute(rd, regs.get(rs1) & regs.get(rs2), regs),
+        Instr::Mul { rd, rs1, rs2 } => compute(rd, regs.get(rs1).wrapping_mul(regs.get(rs2)), regs),
+        Instr::Mulh { rd, rs1, rs2 } => compute(
+            rd,
+            high_product(long(regs.get(rs1)), long(regs.get(rs2))),
+            regs,
+        ),
+        Instr::Mulhsu { rd, rs1, rs2 } => compute(
+            rd,
+            high_product(long(regs.get(rs1)), u64::from(regs.get(rs2))),
+            regs,
+        ),
+        Instr::Mulhu { rd, rs1, rs2 } => compute(
+            rd,
+            high_product(u64::from(regs.get(rs1)), u64::from(regs.get(rs2))),
+            regs,
+        ),
+        Instr::Div { rd, rs1, rs2 } => compute(
+            rd,
+            quotient_signed(regs.get(rs1), regs.get(rs2)),
+            regs,
+        ),
+        Instr::Divu { rd, rs1, rs2 } => compute(rd, quotient(regs.get(rs1), regs.get(rs2)), regs),
+        Instr::Rem { rd, rs1, rs2 } => compute(
+            rd,
+            remainder_signed(regs.get(rs1), regs.get(rs2)),
+            regs,
+        ),
+        Instr::Remu { rd, rs1, rs2 } => compute(rd, remainder(regs.get(rs1), regs.get(rs2)), regs),
     }
 }
 

@@ -1,6 +1,6 @@
 // A worked multiplication and division, run to its stores. The words are the GNU assembler's.
 
-use super::{Ram, Regs, Stepped, step};
+use super::{Program, Ram, Regs, Stepped, step};
 use std::test::Fail;
 
 // lui t0, 0x80000; li t1, -1; la t2, 0x100000; div a0, t0, t1; sw a0, 0(t2); rem a1, t0, x0; sw a1, 4(t2);
@@ -33,6 +33,8 @@ static STORES: [(u32, u32, u32); 4] = [
 fn multiplies_and_divides(rt: HostRuntime) -> Result<(), Fail> {
     let mut ram = Ram::new(rt.alloc(), &[7, 8])?;
     let mut regs = Regs::new();
+    let program = Program::new(rt.alloc(), &CODE)?;
+    assert!(rt; program.words() == CODE.as_slice() && program.instruction(2).is_none());
     assert!(rt; ram.word(1048580) == 8 && ram.word(1310716) == 0);
     for (before, addr, value) in STORES.iter() {
         for _ in 0..*before {
@@ -43,7 +45,7 @@ fn multiplies_and_divides(rt: HostRuntime) -> Result<(), Fail> {
             width: 4,
             value: *value,
         };
-        assert!(rt; step(&CODE, &mut regs, &mut ram) == stored);
+        assert!(rt; program.step(&mut regs, &mut ram) == stored);
     }
     assert!(rt; ram.word(1048576) == 4294967294 && ram.word(1048584) == 4294967295);
     assert!(rt; regs.pc() == 48 && regs.get(10) == 2147483648);

@@ -1,3 +1,4 @@
 pub mod Decoded
 pub mod Formats
 pub mod Listing
+pub mod Operands

@@ -4,6 +4,7 @@
 mod decoding;
 mod encoding;
 mod fields;
+mod operands;
 #[cfg(test)]
 mod tests;
 

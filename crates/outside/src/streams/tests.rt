@@ -1,6 +1,6 @@
 use super::{StdSink, StdSource};
 use crate::{Failed, Sink, Source};
-use std::io::{self, Read, Write};
+use std::io::{self, BufWriter, Read, Write};
 use std::test::Fail;
 
 // A stream that passes on at most two bytes a call, and fails at every third call.
@@ -75,5 +75,19 @@ fn a_short_writer_is_written_to_again(rt: HostRuntime) -> Result<(), Fail> {
     assert_eq!(rt; sink.write(b"gh"), Err(Failed));
     assert_eq!(rt; sink.faults, u64::MAX);
     assert_eq!(rt; held.as_slice(), b"abcdef".as_slice());
+    Ok(())
+}
+
+// A buffer takes a piece that its writer has no room for: the fault comes with the flush, and is counted once.
+#[test]
+fn a_flush_that_fails_is_counted(rt: HostRuntime) -> Result<(), Fail> {
+    let mut held = [0u8; 2];
+    let mut sink = StdSink::new(BufWriter::with_capacity(rt.alloc(), 8, held.as_mut_slice())?);
+    assert_eq!(rt; sink.write(b"ab"), Ok(()));
+    assert_eq!(rt; sink.flush(), Ok(()));
+    assert_eq!(rt; sink.write(b"cde"), Ok(()));
+    assert_eq!(rt; sink.faults, 0);
+    assert_eq!(rt; sink.flush(), Err(Failed));
+    assert_eq!(rt; sink.faults, 1);
     Ok(())
 }
