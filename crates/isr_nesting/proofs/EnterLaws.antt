@@ -4,9 +4,9 @@ use Rattle.std.specs.Prelude.{nat_le, nat_lt, if◌then◌else◌, ◌==◌, opt
 use Rattle.std.proofs.lemmas.Bool.Decides.{eqb_tells}
 use Rattle.inject_list.specs.declared.lists.Moment.{Moment}
 use Rattle.inject_list.specs.declared.lists.Moment.TheVariants.{Task, Step}
-use Rattle.kern_model.proofs.Tests.{choice_by, less, and_first, and_second}
-use Rattle.isr_nesting.specs.Frames.{Interrupt, FrameRecord, level_of, none_stands}
-use Rattle.isr_nesting.specs.Due.{Place, is_step, lets_in, due_from, highest_from, highest, due, taken_at}
+use Rattle.kern_model.proofs.Lemmas.{choice_by, less, and_first, and_second}
+use Rattle.machine_model.specs.Frames.{Interrupt, FrameRecord, level_of, none_stands}
+use Rattle.machine_model.specs.Due.{Place, is_step, lets_in, due_from, highest_from, highest, due, taken_at}
 use Rattle.isr_nesting.specs.Nest.{number_at, unnumbered, waiting_at, without_number, due_number, IsRising}
 use Rattle.isr_nesting.proofs.KeyLaws.{drop-here, number-here}
 use Rattle.isr_nesting.proofs.SplitLaws.{none-level}

@@ -2,9 +2,9 @@
 use Rattle.std.proofs.Common.{◌≡◌, ℕ, zero, suc, ◌+◌, ◌%◌, ◌<◌, ◌≤◌, Bool, true, false, ◌&&◌, List, [], ◌∷◌, map, drop, refl, sym, ap, ◌∙◌, subst, arith, Some, None}
 use Rattle.std.specs.Prelude.{min, nat_lt, option_map, if◌then◌else◌}
 use Rattle.std.proofs.lemmas.Bool.Decides.{nat_tests}
-use Rattle.kern_model.proofs.Tests.{choice_by, less, not_less}
-use Rattle.isr_nesting.specs.Frames.{Interrupt, FrameRecord}
-use Rattle.isr_nesting.specs.Due.{Place, is_step, lets_in, due_from, highest_from, highest}
+use Rattle.kern_model.proofs.Lemmas.{choice_by, less, not_less}
+use Rattle.machine_model.specs.Frames.{Interrupt, FrameRecord}
+use Rattle.machine_model.specs.Due.{Place, is_step, lets_in, due_from, highest_from, highest}
 use Rattle.isr_nesting.specs.Least.{nothing, least}
 use Rattle.isr_nesting.specs.Nest.{number_at, unnumbered, due_number, IsRising}
 use Rattle.isr_nesting.specs.Keys.{key, key_of, number_of}

@@ -4,10 +4,10 @@ use Rattle.std.specs.Prelude.{nat_le, slice_index, slice_set}
 use Rattle.std.proofs.lemmas.Bool.{true≢false}
 use Rattle.std.proofs.lemmas.Bool.Decides.{eqb_tells}
 use Rattle.std.proofs.lemmas.List.{get_or-set_same, get_or-set_other, length-set}
-use Rattle.kern_model.proofs.Tests.{at_most, above}
+use Rattle.kern_model.proofs.Lemmas.{at_most, above}
 use Rattle.inject_list.specs.declared.lists.Moment.TheVariants.{Step}
 use Rattle.isr_nesting.specs.declared.records.Recorded.{Recorded}
-use Rattle.isr_nesting.specs.Due.{is_step}
+use Rattle.machine_model.specs.Due.{is_step}
 use Rattle.isr_nesting.specs.Least.{nothing, least}
 use Rattle.isr_nesting.specs.Keys.{key, step_key}
 use Rattle.isr_nesting.specs.Kept.{Stands, HasPlaces, IsPassed}

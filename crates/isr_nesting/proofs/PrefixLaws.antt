@@ -1,7 +1,7 @@
 -- The least of the first words of a list.
 use Rattle.std.proofs.Common.{◌≡◌, ◌⊎◌, ℕ, zero, suc, ◌<◌, ◌≤◌, List, [], ◌∷◌, length, take, refl, subst, arith, inl, inr}
 use Rattle.std.specs.Prelude.{min, nat_le, slice_index}
-use Rattle.kern_model.proofs.Tests.{at_most, above}
+use Rattle.kern_model.proofs.Lemmas.{at_most, above}
 use Rattle.isr_nesting.specs.Least.{nothing, least}
 use Rattle.isr_nesting.proofs.WaitLaws.{by_test}
 

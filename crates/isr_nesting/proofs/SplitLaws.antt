@@ -4,8 +4,8 @@ use Rattle.std.specs.Prelude.{min, nat_le, nat_lt, if◌then◌else◌}
 use Rattle.std.proofs.lemmas.Bool.Decides.{nat_tests}
 use Rattle.inject_list.specs.declared.lists.Moment.{Moment}
 use Rattle.inject_list.specs.declared.lists.Moment.TheVariants.{Task, Step}
-use Rattle.isr_nesting.specs.Frames.{Interrupt, FrameRecord, level_of, none_stands}
-use Rattle.isr_nesting.specs.Due.{is_step, lets_in}
+use Rattle.machine_model.specs.Frames.{Interrupt, FrameRecord, level_of, none_stands}
+use Rattle.machine_model.specs.Due.{is_step, lets_in}
 use Rattle.isr_nesting.specs.Least.{nothing}
 use Rattle.isr_nesting.specs.Nest.{IsRising, due_number}
 use Rattle.isr_nesting.specs.Keys.{key, key_of, step_key_at, step_key, task_key_at, task_key, above, number_of}

@@ -1,11 +1,12 @@
 -- The first interrupt that waits and whose moment is in task steps.
 use Rattle.std.proofs.Common.{◌≡◌, ℕ, zero, suc, ◌+◌, ◌<◌, ◌≤◌, Bool, true, false, List, [], ◌∷◌, length, refl, ap, ◌∙◌, subst, arith}
-use Rattle.std.specs.Prelude.{slice_index, if◌then◌else◌}
+use Rattle.std.specs.Prelude.{slice_index, nat_le, nat_lt, if◌then◌else◌}
+use Rattle.std.proofs.lemmas.Bool.Decides.{nat_tests}
 use Rattle.std.proofs.lemmas.Bool.{false≢true, true≢false}
 use Rattle.inject_list.specs.declared.lists.Moment.{Moment}
 use Rattle.inject_list.specs.declared.lists.Moment.TheVariants.{Task, Step}
 use Rattle.isr_nesting.specs.declared.records.Recorded.{Recorded}
-use Rattle.isr_nesting.specs.Due.{is_step}
+use Rattle.machine_model.specs.Due.{is_step}
 use Rattle.isr_nesting.specs.Least.{nothing}
 use Rattle.isr_nesting.specs.Keys.{key, task_key_at, task_key}
 use Rattle.isr_nesting.specs.Kept.{IsPassed}
@@ -127,3 +128,38 @@ task-first t es n (r ∷ rs) (suc next) p h =
   where
     room : (x : ℕ) (xs : List ℕ) (m : ℕ) → suc m < length (x ∷ xs) → m < length xs
     room x xs m h = omega arith
+
+late_by : (x t : ℕ) → t < x → nat_le x t ≡ false
+late_by x t h = grind (arith, nat_tests)
+
+-- before its moment it is not due
+late : (t bound k : ℕ) (m : Moment) → ((x : ℕ) → m ≡ Task x → bound ≤ x) → t < bound → task_key_at t m k nothing ≡ nothing
+late t bound k (Task x) h l = let early : nat_le x t ≡ false = late_by x t (omega (arith, h x refl, l)) in rw early refl
+late t bound k (Step x) h l = refl
+
+pub task-early : (t : ℕ) (es : List Bool) (rs : List Recorded) (ts : List ℕ) (next bound : ℕ) → ts ≡ task_numbers 0 rs → IsPassed es ts next → ((x : ℕ) → next < length ts → (record_at rs (slice_index ts next)).moment ≡ Task x → bound ≤ x) → t < bound → task_key t (waiting_from es 0 rs) ≡ nothing
+task-early t es rs ts next bound tasks passed moment l =
+    let p : IsPassed es (task_numbers 0 rs) next = subst (λ q. IsPassed es q next) tasks passed in
+    let size : length ts ≡ length (task_numbers 0 rs) = ap length tasks in
+    by_test (nat_lt next (length (task_numbers 0 rs)))
+    (λ e. let room : next < length (task_numbers 0 rs) = inside next (length (task_numbers 0 rs)) e in
+    let f = task-first t es 0 rs next p room in
+    let place : slice_index ts next ≡ f.0 = ap (λ q. slice_index q next) tasks ∙ f.1.number ∙ omega arith in
+    f.1.value ∙ late t bound (key (record_at rs f.0).level (0 + f.0)) (record_at rs f.0).moment
+    (λ x same. moment x (omega (arith, room, size)) (ap (λ i. (record_at rs i).moment) place ∙ same)) l)
+    (λ e. task-none t es 0 rs next p (past next (length (task_numbers 0 rs)) e))
+  where
+    inside : (a b : ℕ) → nat_lt a b ≡ true → a < b
+    inside a b e = grind (arith, nat_tests)
+
+    past : (a b : ℕ) → nat_lt a b ≡ false → b ≤ a
+    past a b e = grind (arith, nat_tests)
+
+-- what is read at a place of a list is what stands there
+pub kept-step : (l ms : List ℕ) (at r : ℕ) → l ≡ ms → (at < length l → r ≡ slice_index l at) → at < length ms → r ≤ slice_index ms at
+kept-step l ms at r e f h = let same : r ≡ slice_index ms at = subst (λ q. at < length q → r ≡ slice_index q at) e f h in omega (arith, same)
+
+pub kept-task : (l rs : List Recorded) (q ts : List ℕ) (at r : ℕ) → l ≡ rs → q ≡ ts → ((m : ℕ) → at < length q → (record_at l (slice_index q at)).moment ≡ Task m → r ≤ m) → (m : ℕ) → at < length ts → (record_at rs (slice_index ts at)).moment ≡ Task m → r ≤ m
+kept-task l rs q ts at r e d f =
+    subst (λ (x : List ℕ). (m : ℕ) → at < length x → (record_at rs (slice_index x at)).moment ≡ Task m → r ≤ m) d
+    (subst (λ (x : List Recorded). (m : ℕ) → at < length q → (record_at x (slice_index q at)).moment ≡ Task m → r ≤ m) e f)

@@ -4,11 +4,11 @@ use Rattle.std.specs.Prelude.{is_some, min, nat_le, slice_set, if◌then◌else�
 use Rattle.std.proofs.lemmas.Bool.{false≢true}
 use Rattle.std.proofs.lemmas.Bool.Decides.{eqb_tells, nat_tests}
 use Rattle.std.proofs.lemmas.List.{get_or-set_same, get_or-set_other}
-use Rattle.kern_model.proofs.Tests.{at_most, above}
+use Rattle.kern_model.proofs.Lemmas.{at_most, above}
 use Rattle.inject_list.specs.declared.lists.Moment.{Moment}
 use Rattle.inject_list.specs.declared.lists.Moment.TheVariants.{Task, Step}
 use Rattle.isr_nesting.specs.declared.records.Recorded.{Recorded}
-use Rattle.isr_nesting.specs.Frames.{Interrupt}
+use Rattle.machine_model.specs.Frames.{Interrupt}
 use Rattle.isr_nesting.specs.Least.{nothing}
 use Rattle.isr_nesting.specs.Nest.{waiting_at, without_number, IsRising}
 use Rattle.isr_nesting.specs.Keys.{key, step_key_at, step_key}

@@ -1,7 +1,7 @@
 -- What a frame means.
 use Rattle.std.specs.Prelude.{ℕ, ◌/◌, ◌%◌, ◌<◌, ◌≤◌, ◌==◌, ◌++◌, [], ◌∷◌, List, map, reverse, if◌then◌else◌}
 use Rattle.isr_nesting.specs.declared.Frame.{Frame}
-use Rattle.isr_nesting.specs.Frames.{FrameRecord, level_of}
+use Rattle.machine_model.specs.Frames.{FrameRecord, level_of}
 
 -- the registers that are marked: bit 0 stands for register 10, bit 1 for register 11
 abbrev pub mark_list : ℕ → List ℕ

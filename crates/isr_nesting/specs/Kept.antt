@@ -1,6 +1,6 @@
 -- What is always true of the interrupts that wait.
 use Rattle.std.specs.Prelude.{ℕ, ◌≡◌, ◌<◌, ◌≤◌, ◌%◌, ◌⊎◌, Bool, true, false, List, length, slice_index}
-use Rattle.inject_list.specs.declared.lists.Moment.TheVariants.{Step}
+use Rattle.inject_list.specs.declared.lists.Moment.TheVariants.{Task, Step}
 use Rattle.isr_nesting.specs.declared.records.Recorded.{Recorded}
 use Rattle.isr_nesting.specs.declared.waits.Waiting.TheInside.{Inside}
 use Rattle.isr_nesting.specs.Least.{nothing}
@@ -41,3 +41,5 @@ pub record IsKept (a : Inside) : Type 0 where
   pub gone : (j : ℕ) → j < a.first → slice_index a.keys j ≡ nothing
   pub tasks : a.tasks.items ≡ task_numbers 0 a.recorded.items
   pub passed : IsPassed a.entered.items a.tasks.items a.next
+  pub next_step : a.first < length a.moments.items → a.next_step ≤ slice_index a.moments.items a.first
+  pub next_task : (m : ℕ) → a.next < length a.tasks.items → (record_at a.recorded.items (slice_index a.tasks.items a.next)).moment ≡ Task m → a.next_task ≤ m

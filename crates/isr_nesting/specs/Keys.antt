@@ -2,7 +2,7 @@
 use Rattle.std.specs.Prelude.{ℕ, ◌+◌, ◌-◌, ◌*◌, ◌%◌, List, [], ◌∷◌, min, nat_le, nat_lt, Option, Some, None, if◌then◌else◌}
 use Rattle.inject_list.specs.declared.lists.Moment.{Moment}
 use Rattle.inject_list.specs.declared.lists.Moment.TheVariants.{Task, Step}
-use Rattle.isr_nesting.specs.Frames.{Interrupt}
+use Rattle.machine_model.specs.Frames.{Interrupt}
 use Rattle.isr_nesting.specs.Least.{nothing}
 
 -- a higher level first, and at one level a lower number

@@ -1,6 +1,3 @@
-pub mod Frames
-pub mod Due
-pub mod Marks
 pub mod Least
 pub mod Tree
 pub mod FrameView

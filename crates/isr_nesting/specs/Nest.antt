@@ -1,8 +1,8 @@
 -- The nesting of interrupts: the frames that stand, and the recorded interrupts that have not entered, each with its number.
 use Rattle.std.specs.Prelude.{ℕ, zero, suc, ◌+◌, ◌<◌, ◌≤◌, Bool, not, List, [], ◌∷◌, map, Option, Some, None, option_map, if◌then◌else◌, ◌==◌}
 use Rattle.std.specs.List.{filter}
-use Rattle.isr_nesting.specs.Frames.{Interrupt, FrameRecord}
-use Rattle.isr_nesting.specs.Due.{due}
+use Rattle.machine_model.specs.Frames.{Interrupt, FrameRecord}
+use Rattle.machine_model.specs.Due.{due}
 
 -- the frames, the top one first; and the interrupts with their numbers in the list, which rise
 pub record Nest : Type 0 where

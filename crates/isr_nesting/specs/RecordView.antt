@@ -2,8 +2,8 @@
 use Rattle.std.specs.Prelude.{ℕ, ◌+◌, Bool, true, List, [], ◌∷◌, slice_index_or, if◌then◌else◌}
 use Rattle.inject_list.specs.declared.lists.Moment.TheVariants.{Task}
 use Rattle.isr_nesting.specs.declared.records.Recorded.{Recorded}
-use Rattle.isr_nesting.specs.Frames.{Interrupt}
-use Rattle.isr_nesting.specs.Due.{is_step}
+use Rattle.machine_model.specs.Frames.{Interrupt}
+use Rattle.machine_model.specs.Due.{is_step}
 
 abbrev pub interrupt_in : Recorded → Interrupt
 interrupt_in r = record { moment = r.moment; vector = r.vector; level = r.level; entry = r.entry; sp = r.sp; words = r.words }

@@ -1,6 +1,5 @@
 -- A tree of minima in a list: the leaves are its second half, and node i stands above the nodes 2 i and 2 i + 1.
-use Rattle.std.specs.Prelude.{ℕ, ◌≡◌, ◌+◌, ◌*◌, ◌<◌, ◌≤◌, List, drop, length, min}
-use Rattle.std.specs.Prelude.{slice_index}
+use Rattle.std.specs.Prelude.{ℕ, ◌≡◌, ◌+◌, ◌*◌, ◌<◌, ◌≤◌, List, drop, length, min, slice_index}
 use Rattle.isr_nesting.specs.declared.minima.Minima.TheInside.{Inside}
 
 -- the leaves

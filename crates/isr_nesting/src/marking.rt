@@ -4,7 +4,8 @@ ghost use Rattle.std.specs.Prelude.{◌≡◌, ◌==◌, ◌||◌, ℕ, Bool, fa
 ghost use Rattle.std.specs.List.{list_any};
 ghost use Rattle.kern_model.specs.Services.{program_serves};
 ghost use Rattle.isr_nesting.specs.FrameView.{mark_list};
-ghost use Rattle.isr_nesting.specs.Marks.{reads, writes, is_marked, call_reads, instruction_reads, marks_after};
+ghost use Rattle.rv32_isa.specs.Operands.{reads, writes};
+ghost use Rattle.machine_model.specs.Marks.{is_marked, call_reads, instruction_reads, marks_after, reads_of};
 
 use kern_base::Service;
 use rv32_exec::Regs;
@@ -17,118 +18,6 @@ const SECOND: u8 = 2;
 
 // What a post leaves in a frame's marks: `a0` and `a1` hold its answer.
 pub(crate) const POST: u8 = FIRST + SECOND;
-
-// The register that an instruction writes; 0 where it writes none.
-fn target(instr: &Instr) -> u8
-    ensures { result ≡ writes instr.now }
-{
-    match *instr {
-        Instr::Beq { .. }
-        | Instr::Bne { .. }
-        | Instr::Blt { .. }
-        | Instr::Bge { .. }
-        | Instr::Bltu { .. }
-        | Instr::Bgeu { .. }
-        | Instr::Sb { .. }
-        | Instr::Sh { .. }
-        | Instr::Sw { .. }
-        | Instr::Fence { .. }
-        | Instr::Ecall
-        | Instr::Ebreak => 0,
-        Instr::Lui { rd, .. }
-        | Instr::Auipc { rd, .. }
-        | Instr::Jal { rd, .. }
-        | Instr::Jalr { rd, .. }
-        | Instr::Lb { rd, .. }
-        | Instr::Lh { rd, .. }
-        | Instr::Lw { rd, .. }
-        | Instr::Lbu { rd, .. }
-        | Instr::Lhu { rd, .. }
-        | Instr::Addi { rd, .. }
-        | Instr::Slti { rd, .. }
-        | Instr::Sltiu { rd, .. }
-        | Instr::Xori { rd, .. }
-        | Instr::Ori { rd, .. }
-        | Instr::Andi { rd, .. }
-        | Instr::Slli { rd, .. }
-        | Instr::Srli { rd, .. }
-        | Instr::Srai { rd, .. }
-        | Instr::Add { rd, .. }
-        | Instr::Sub { rd, .. }
-        | Instr::Sll { rd, .. }
-        | Instr::Slt { rd, .. }
-        | Instr::Sltu { rd, .. }
-        | Instr::Xor { rd, .. }
-        | Instr::Srl { rd, .. }
-        | Instr::Sra { rd, .. }
-        | Instr::Or { rd, .. }
-        | Instr::And { rd, .. }
-        | Instr::Mul { rd, .. }
-        | Instr::Mulh { rd, .. }
-        | Instr::Mulhsu { rd, .. }
-        | Instr::Mulhu { rd, .. }
-        | Instr::Div { rd, .. }
-        | Instr::Divu { rd, .. }
-        | Instr::Rem { rd, .. }
-        | Instr::Remu { rd, .. } => rd,
-    }
-}
-
-// The registers that an instruction other than ECALL reads; 0 in place of one that it does not.
-fn sources(instr: &Instr) -> (u8, u8)
-    ensures { (p : ℕ → Bool) → p 0 ≡ false → list_any p (reads instr.now) ≡ (p result.0 || p result.1) }
-{
-    match *instr {
-        Instr::Lui { .. }
-        | Instr::Auipc { .. }
-        | Instr::Jal { .. }
-        | Instr::Fence { .. }
-        | Instr::Ecall
-        | Instr::Ebreak => (0, 0),
-        Instr::Jalr { rs1, .. }
-        | Instr::Lb { rs1, .. }
-        | Instr::Lh { rs1, .. }
-        | Instr::Lw { rs1, .. }
-        | Instr::Lbu { rs1, .. }
-        | Instr::Lhu { rs1, .. }
-        | Instr::Addi { rs1, .. }
-        | Instr::Slti { rs1, .. }
-        | Instr::Sltiu { rs1, .. }
-        | Instr::Xori { rs1, .. }
-        | Instr::Ori { rs1, .. }
-        | Instr::Andi { rs1, .. }
-        | Instr::Slli { rs1, .. }
-        | Instr::Srli { rs1, .. }
-        | Instr::Srai { rs1, .. } => (rs1, 0),
-        Instr::Beq { rs1, rs2, .. }
-        | Instr::Bne { rs1, rs2, .. }
-        | Instr::Blt { rs1, rs2, .. }
-        | Instr::Bge { rs1, rs2, .. }
-        | Instr::Bltu { rs1, rs2, .. }
-        | Instr::Bgeu { rs1, rs2, .. }
-        | Instr::Sb { rs1, rs2, .. }
-        | Instr::Sh { rs1, rs2, .. }
-        | Instr::Sw { rs1, rs2, .. }
-        | Instr::Add { rs1, rs2, .. }
-        | Instr::Sub { rs1, rs2, .. }
-        | Instr::Sll { rs1, rs2, .. }
-        | Instr::Slt { rs1, rs2, .. }
-        | Instr::Sltu { rs1, rs2, .. }
-        | Instr::Xor { rs1, rs2, .. }
-        | Instr::Srl { rs1, rs2, .. }
-        | Instr::Sra { rs1, rs2, .. }
-        | Instr::Or { rs1, rs2, .. }
-        | Instr::And { rs1, rs2, .. }
-        | Instr::Mul { rs1, rs2, .. }
-        | Instr::Mulh { rs1, rs2, .. }
-        | Instr::Mulhsu { rs1, rs2, .. }
-        | Instr::Mulhu { rs1, rs2, .. }
-        | Instr::Div { rs1, rs2, .. }
-        | Instr::Divu { rs1, rs2, .. }
-        | Instr::Rem { rs1, rs2, .. }
-        | Instr::Remu { rs1, rs2, .. } => (rs1, rs2),
-    }
-}
 
 // Whether a register is marked.
 fn has_mark(marks: u8, register: u8) -> bool
@@ -156,7 +45,7 @@ fn call_reads_mark(marks: u8, service: Service) -> bool
 fn source_has_mark(marks: u8, instr: &Instr) -> bool
     ensures { result ≡ is_marked (mark_list marks) (reads instr.now) }
 {
-    let (first, second) = sources(instr);
+    let (first, second) = instr.sources();
     has_mark(marks, first) || has_mark(marks, second)
 }
 
@@ -176,12 +65,27 @@ pub fn marks_after(marks: u8, instr: Option<&Instr>) -> u8
     ensures { mark_list result ≡ marks_after (option_map (λ i. i.now) instr.entry) (mark_list marks) }
 {
     let register = match instr {
-        Some(instr) => target(instr),
+        Some(instr) => instr.target(),
         None => 0,
     };
     match register {
         10 => marks / 2 * 2,
         11 => marks % 2,
         _ => marks,
+    }
+}
+
+// Whether the instruction that comes next, if one does, reads a marked register, and the marks once it has
+// written its register.
+pub(crate) fn marks_at(marks: u8, regs: &Regs, instr: Option<&Instr>) -> (bool, u8)
+    ensures reads { result.0 ≡ is_marked (mark_list marks) (reads_of program_serves regs.now (option_map (λ i. i.now) instr.entry)) }
+    ensures after { mark_list result.1 ≡ marks_after (option_map (λ i. i.now) instr.entry) (mark_list marks) }
+{
+    match instr {
+        Some(instr) => (
+            reads_mark(marks, regs, instr),
+            marks_after(marks, Some(instr)),
+        ),
+        None => (false, marks),
     }
 }

@@ -1,30 +1,31 @@
 // The nesting of interrupts.
 
-ghost use Rattle.std.specs.Prelude.{◌≡◌, ◌<◌, ◌≤◌, ◌&&◌, All, length, map, IfSome, [], ◌∷◌, true, false, drop, if◌then◌else◌, is_some, IfOk, IsSomeAnd, Some, option_map, slice_get};
+ghost use Rattle.std.specs.Prelude.{◌≡◌, ◌<◌, ◌≤◌, ◌+◌, ◌-◌, ◌^◌, ◌&&◌, All, length, map, IfSome, [], ◌∷◌, true, false, drop, if◌then◌else◌, is_some, IfOk, IsSomeAnd, Some, option_map, slice_get};
 ghost use Rattle.kern_model.specs.Services.{program_serves};
 ghost use Rattle.inject_list.specs.Lists.{IsValidList};
-ghost use Rattle.isr_nesting.specs.Frames.{entered, frame_registers, interrupts_of, level_of, none_stands};
+ghost use Rattle.machine_model.specs.Frames.{entered, frame_registers, interrupts_of, level_of, none_stands};
 ghost use Rattle.isr_nesting.specs.FrameView.{frame_record, mark_list, with_top};
-ghost use Rattle.isr_nesting.specs.Due.{is_step};
-ghost use Rattle.isr_nesting.specs.Marks.{post_marks, is_marked, instruction_reads};
+ghost use Rattle.machine_model.specs.Due.{is_step};
+ghost use Rattle.machine_model.specs.Marks.{post_marks, is_marked, instruction_reads, marks_after, next_instruction, reads_result};
+ghost use Rattle.machine_model.specs.Interrupts.{answered_frame};
+ghost use Rattle.rv32_exec.specs.Exec.{exec};
 ghost use Rattle.isr_nesting.specs.Least.{nothing};
 ghost use Rattle.isr_nesting.specs.Keys.{step_key, task_key};
 ghost use Rattle.isr_nesting.specs.RecordView.{interrupt_in};
 ghost use Rattle.isr_nesting.specs.Nest.{numbered, waiting_at, without_number, due_number, IsRising};
 
 use crate::Frame;
-use crate::marking::{POST, reads_mark};
+use crate::marking::{POST, marks_at, reads_mark};
 use crate::records::{Recorded, records_of};
 use crate::stacks::Stack;
 use crate::waits::{NONE, NUMBERS, Waiting};
 use app_image::Image;
 use inject_list::{InjectList, Moment};
-use kern_base::NoMemory;
-use rv32_exec::Regs;
+use kern_base::{Answer, LEAVE, NoMemory};
+use rv32_exec::{Program, Ram, Regs, Stepped};
 use rv32_isa::Instr;
 use std::alloc::Global;
 use std::marker::Model;
-use tcb_pool::LEAVE;
 
 /// What is told of an interrupt that enters.
 #[derive(Clone, Copy, Debug, PartialEq, Eq)]
@@ -101,6 +102,9 @@ impl Frames {
         ensures rising { IsRising 0 self.now.waiting }
     {
         self.waiting.rising();
+        if self.waiting.is_early(s, t) {
+            return None;
+        }
         let best = self.by_steps(masked, s).min(self.by_tasks(quiet, t));
         if best < (7 - u32::from(self.stack.level())) * NUMBERS {
             Some((best % NUMBERS) as usize)
@@ -161,6 +165,52 @@ impl Frames {
         ensures { self.new ≡ record self.old { frames = with_top (λ f. record f { registers = regs; used = used; marks = mark_list marks }) self.old.frames } }
     {
         self.stack.set_top(regs, used, marks);
+    }
+
+    /// The top frame runs one instruction, where its registers stand. A trap changes nothing.
+    #[inline(always)]
+    pub fn run_top(&mut self, program: &Program, ram: &mut Ram) -> Stepped
+        requires { none_stands self.old.frames ≡ false }
+        ensures frames { self.new ≡ record self.old { frames = with_top (λ f. record f { registers = (exec program.now f.registers ram.old).registers }) self.old.frames } }
+        ensures memory { option_map (λ f. (exec program.now f.registers ram.old).memory) (slice_get self.old.frames 0) ≡ Some ram.new }
+        ensures did { option_map (λ f. (exec program.now f.registers ram.old).did) (slice_get self.old.frames 0) ≡ Some result }
+    {
+        self.stack.run(program, ram)
+    }
+
+    /// The top frame has run one more instruction, which leaves these marks.
+    pub fn count_top(&mut self, marks: u8)
+        requires stands { none_stands self.old.frames ≡ false }
+        requires room { IfSome (slice_get self.old.frames 0) (λ f. f.used < 2 ^ 32 - 1) }
+        ensures { self.new ≡ record self.old { frames = with_top (λ f. record f { used = f.used + 1; marks = mark_list marks }) self.old.frames } }
+    {
+        self.stack.count(marks);
+    }
+
+    /// The top frame has run a call, and has its answer: no register is marked.
+    pub fn answer_top(&mut self, answer: Answer)
+        requires stands { none_stands self.old.frames ≡ false }
+        requires room { IfSome (slice_get self.old.frames 0) (λ f. f.used < 2 ^ 32 - 1) }
+        ensures { self.new ≡ record self.old { frames = with_top (λ f. answered_frame f f.registers answer []) self.old.frames } }
+    {
+        self.stack.answer(answer);
+    }
+
+    /// Whether the next instruction of the top frame reads a register that is marked, and the marks behind
+    /// it, where it is no ECALL. Nothing is looked at where no register is marked.
+    pub fn marks_ahead(&self, program: &Program) -> (bool, u8)
+        requires { none_stands self.now.frames ≡ false }
+        ensures reads { option_map (reads_result program_serves program.now) (slice_get self.now.frames 0) ≡ Some result.0 }
+        ensures after { option_map (λ f. marks_after (next_instruction program.now f.registers) f.marks) (slice_get self.now.frames 0) ≡ Some (mark_list result.1) }
+    {
+        match self.stack.top() {
+            Some(frame) if frame.marks != 0 => marks_at(
+                frame.marks,
+                &frame.regs,
+                program.instruction(frame.regs.pc()),
+            ),
+            _ => (false, 0),
+        }
     }
 
     /// The top frame has posted: `a0` and `a1` hold the answer.

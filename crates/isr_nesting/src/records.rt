@@ -1,7 +1,7 @@
 // The recorded interrupts of a list, with what their vectors declare.
 
 ghost use Rattle.std.specs.Prelude.{◌≡◌, ◌≤◌, All, map, IfOk};
-ghost use Rattle.isr_nesting.specs.Frames.{interrupt_of};
+ghost use Rattle.machine_model.specs.Frames.{interrupt_of};
 ghost use Rattle.isr_nesting.specs.RecordView.{interrupt_in};
 
 use app_image::VectorDef;

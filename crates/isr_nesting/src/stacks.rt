@@ -1,13 +1,19 @@
 // The frames that stand.
 
-ghost use Rattle.std.specs.Prelude.{◌≡◌, ◌<◌, ◌≤◌, [], ◌∷◌, false, drop, slice_get, option_map};
-ghost use Rattle.isr_nesting.specs.Frames.{level_of, none_stands};
+ghost use Rattle.std.specs.Prelude.{◌≡◌, ◌<◌, ◌≤◌, ◌+◌, ◌-◌, ◌^◌, [], ◌∷◌, false, drop, slice_get, option_map, IfSome, Some};
+ghost use Rattle.rv32_exec.specs.Exec.{exec};
+ghost use Rattle.machine_model.specs.Interrupts.{answered_frame};
+ghost use Rattle.machine_model.specs.Frames.{level_of, none_stands};
 ghost use Rattle.isr_nesting.specs.FrameView.{frame_record, mark_list, with_top};
 
 use crate::Frame;
 use arrayvec::ArrayVec;
-use rv32_exec::Regs;
+use kern_base::Answer;
+use rv32_exec::{Program, Ram, Regs, Stepped};
 use std::marker::Model;
+
+// The register of an answer's error; its value is in the next one.
+const A0: u8 = 10;
 
 // The frames, the top one last: each has a level above the one below it. Contracts see them with the top
 // one first.
@@ -18,7 +24,7 @@ pub(crate) struct Stack {
 
 impl Model for Stack {
     ghost use Rattle.std.specs.Prelude.{List};
-    ghost use Rattle.isr_nesting.specs.Frames.{FrameRecord};
+    ghost use Rattle.machine_model.specs.Frames.{FrameRecord};
 
     ghost Value = { List FrameRecord };
 
@@ -95,6 +101,45 @@ impl Stack {
             used,
             marks,
         };
+    }
+
+    // The top frame runs one instruction where its registers stand; a trap changes nothing.
+    #[inline(always)]
+    pub fn run(&mut self, program: &Program, ram: &mut Ram) -> Stepped
+        requires { none_stands self.old ≡ false }
+        ensures frames { self.new ≡ with_top (λ f. record f { registers = (exec program.now f.registers ram.old).registers }) self.old }
+        ensures memory { option_map (λ f. (exec program.now f.registers ram.old).memory) (slice_get self.old 0) ≡ Some ram.new }
+        ensures did { option_map (λ f. (exec program.now f.registers ram.old).did) (slice_get self.old 0) ≡ Some result }
+    {
+        let at = self.frames.len() - 1;
+        let frame = &mut self.frames[at];
+        program.step(&mut frame.regs, ram)
+    }
+
+    // The top frame has run one more instruction, which leaves these marks.
+    pub fn count(&mut self, marks: u8)
+        requires stands { none_stands self.old ≡ false }
+        requires room { IfSome (slice_get self.old 0) (λ f. f.used < 2 ^ 32 - 1) }
+        ensures { self.new ≡ with_top (λ f. record f { used = f.used + 1; marks = mark_list marks }) self.old }
+    {
+        let at = self.frames.len() - 1;
+        let frame = &mut self.frames[at];
+        frame.used += 1;
+        frame.marks = marks;
+    }
+
+    // The top frame has run its call, which is answered; no register is marked.
+    pub fn answer(&mut self, answer: Answer)
+        requires stands { none_stands self.old ≡ false }
+        requires room { IfSome (slice_get self.old 0) (λ f. f.used < 2 ^ 32 - 1) }
+        ensures { self.new ≡ with_top (λ f. answered_frame f f.registers answer []) self.old }
+    {
+        let at = self.frames.len() - 1;
+        let frame = &mut self.frames[at];
+        frame.regs.set(A0, answer.err.number());
+        frame.regs.set(A0 + 1, answer.value);
+        frame.used += 1;
+        frame.marks = 0;
     }
 
     // Writes the marks of the top frame.

@@ -4,7 +4,8 @@ ghost use Rattle.std.specs.Prelude.{◌≡◌, ◌≢◌, ◌<◌, ◌≤◌, �
 ghost use Rattle.isr_nesting.specs.Nest.{numbered, waiting_at, without_number, IsRising};
 ghost use Rattle.isr_nesting.specs.Least.{nothing};
 ghost use Rattle.isr_nesting.specs.Keys.{step_key, task_key, key};
-ghost use Rattle.isr_nesting.specs.RecordView.{interrupt_in, has_entered};
+ghost use Rattle.isr_nesting.specs.RecordView.{interrupt_in, has_entered, record_at};
+ghost use Rattle.inject_list.specs.declared.lists.Moment.TheVariants.{Task};
 ghost use Rattle.isr_nesting.specs.Kept.{IsPassed};
 
 use crate::minima::Minima;
@@ -33,6 +34,7 @@ pub(crate) fn key(level: u8, number: u32) -> u32
 // The interrupts of a list by number, and which of them have entered. Those whose moment is in raw steps stand
 // in the order of their moments, with their keys, where `places` says, and the first `first` of them have
 // entered; those whose moment is in task steps in the order of the list, and the first `next` of them have entered.
+// None is due before the raw step `next_step` and the task step `next_task`.
 #[derive(Drop)]
 pub(crate) struct Waiting {
     recorded: Vec<Recorded>,
@@ -43,11 +45,13 @@ pub(crate) struct Waiting {
     first: usize,
     tasks: Vec<u32>,
     next: usize,
+    next_step: u64,
+    next_task: u32,
 }
 
 impl Model for Waiting {
     ghost use Rattle.std.specs.Prelude.{ℕ, List};
-    ghost use Rattle.isr_nesting.specs.Frames.{Interrupt};
+    ghost use Rattle.machine_model.specs.Frames.{Interrupt};
 
     ghost Value = { List (ℕ × Interrupt) };
 
@@ -86,6 +90,33 @@ fn first_key(keys: &Minima, count: usize, from: usize) -> usize
     at
 }
 
+// The moment at a place; past the last the greatest number.
+fn step_at(moments: &[u64], at: usize) -> u64
+    ensures { at < length moments.now → result ≡ slice_index moments.now at }
+{
+    match moments.get(at) {
+        Some(moment) => *moment,
+        None => u64::MAX,
+    }
+}
+
+// The moment of the interrupt at a place of `tasks`, in task steps; past the last the greatest number.
+fn task_at(recorded: &[Recorded], tasks: &[u32], at: usize) -> u32
+    ensures { (m : ℕ) → at < length tasks.now → (record_at recorded.now (slice_index tasks.now at)).moment ≡ Task m → result ≤ m }
+{
+    if at >= tasks.len() {
+        return u32::MAX;
+    }
+    let number = tasks[at] as usize;
+    if number >= recorded.len() {
+        return 0;
+    }
+    match recorded[number].moment {
+        Moment::Task(moment) => moment,
+        Moment::Step(_) => 0,
+    }
+}
+
 impl Waiting {
     // These interrupts by number, of which none has entered. Takes all the memory.
     pub fn new(alloc: Global, recorded: Vec<Recorded>) -> Result<Waiting, NoMemory>
@@ -101,6 +132,8 @@ impl Waiting {
         let Ok(entered) = Vec::from_elem(alloc, false, recorded.len()) else {
             return Err(NoMemory);
         };
+        let next_step = step_at(&moments, 0);
+        let next_task = task_at(&recorded, &tasks, 0);
         Ok(Waiting {
             recorded,
             entered,
@@ -110,6 +143,8 @@ impl Waiting {
             first: 0,
             tasks,
             next: 0,
+            next_step,
+            next_task,
         })
     }
 
@@ -118,6 +153,15 @@ impl Waiting {
         ensures { IsRising 0 self.now }
     {
         let _ = &self.next;
+    }
+
+    // Whether none has come, as two numbers tell.
+    #[inline(always)]
+    pub fn is_early(&self, s: u64, t: u32) -> bool
+        ensures steps { result ≡ true → step_key s self.now ≡ nothing }
+        ensures tasks { result ≡ true → task_key t self.now ≡ nothing }
+    {
+        s < self.next_step && t < self.next_task
     }
 
     // The least key of those whose moment in raw steps has come.
@@ -165,8 +209,12 @@ impl Waiting {
             Moment::Step(_) => {
                 self.keys.set(self.places[number] as usize, NONE);
                 self.first = first_key(&self.keys, self.moments.len(), self.first);
+                self.next_step = step_at(&self.moments, self.first);
             }
-            Moment::Task(_) => self.next = first_waiting(&self.tasks, &self.entered, self.next),
+            Moment::Task(_) => {
+                self.next = first_waiting(&self.tasks, &self.entered, self.next);
+                self.next_task = task_at(&self.recorded, &self.tasks, self.next);
+            }
         }
     }
 }

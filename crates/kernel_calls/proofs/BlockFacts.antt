@@ -2,8 +2,8 @@
 use Rattle.std.proofs.Common.{◌≡◌, ℕ, ◌<◌, ◌≤◌, ◌+◌, List, [], ◌∷◌, ◌++◌, length, ap, ◌∙◌, refl, Bool, true, false, inl, inr, arith}
 use Rattle.std.specs.Prelude.{slice_set, insert, ◌==◌, if◌then◌else◌}
 use Rattle.std.proofs.lemmas.List.Elements.{All-nil, All-cons}
-use Rattle.kern_model.specs.Valid.{IsValid, MayCall, has_result}
-use Rattle.kern_model.proofs.ValidLaws.{valid-blocked}
+use Rattle.kern_model.specs.Valid.{IsLinked, MayCall, has_result}
+use Rattle.kern_model.proofs.Lemmas.{linked-blocked}
 use Rattle.kern_base.specs.declared.services.Service.TheVariants.{SemPend}
 use Rattle.kern_base.specs.declared.outcomes.Waiting.TheVariants.{Obj}
 use Rattle.kern_model.specs.State.{Kernel, Task, list_at, update_list, update_task, without, prio_of, task_at, is_ready}
@@ -25,15 +25,15 @@ pub same-record : (k : KernelRecord) (state new : Kernel) (registers : List Regi
 same-record k state new registers e f = cc
 
 -- with the lock 0 the caller is an application task
-pub caller_ready : (k : Kernel) → IsValid k → (x : ℕ) → MayCall x k → k.lock ≡ 0 → (x < 60) × (is_ready (task_at k x) ≡ true) × (has_result (task_at k x).answered ≡ false)
+pub caller_ready : (k : Kernel) → IsLinked k → (x : ℕ) → MayCall x k → k.lock ≡ 0 → (x < 60) × (is_ready (task_at k x) ≡ true) × (has_result (task_at k x).answered ≡ false)
 caller_ready k v x (inl m) l = (m.0, m.1, m.2)
-caller_ready k v x (inr m) l = let locked : 0 < k.lock = v.locked (v.callback m.1) in absurd (omega arith)
+caller_ready k v x (inr m) l = let locked : 0 < k.lock = v.lock.locked (v.lock.callback m.1) in absurd (omega arith)
 
 -- a block on one object keeps the kernel valid
-pub valid-one_object : (k : Kernel) → IsValid k → (x : ℕ) → MayCall x k → k.lock ≡ 0 → (o timeout : ℕ) → o < length k.objects → IsValid (blocked k x (waits_for (Obj SemPend) (o ∷ []) timeout))
-valid-one_object k v x m l o timeout inside =
+pub linked-one_object : (k : Kernel) → IsLinked k → (x : ℕ) → MayCall x k → k.lock ≡ 0 → (o timeout : ℕ) → o < length k.objects → IsLinked (blocked k x (waits_for (Obj SemPend) (o ∷ []) timeout))
+linked-one_object k v x m l o timeout inside =
     let c = caller_ready k v x m l in
-    valid-blocked k v x c.0 (waits_for (Obj SemPend) (o ∷ []) timeout) c.1 c.2 refl (All-cons (λ i. i < length k.objects) o [] inside (All-nil (λ i. i < length k.objects))) (omega arith) (λ i. once (o == i))
+    linked-blocked k v x c.0 (waits_for (Obj SemPend) (o ∷ []) timeout) c.1 c.2 refl (All-cons (λ i. i < length k.objects) o [] inside (All-nil (λ i. i < length k.objects))) (omega arith) (λ i. once (o == i))
   where
     once : (b : Bool) → (if b then 1 else 0) + 0 ≤ 1
     once true = omega arith

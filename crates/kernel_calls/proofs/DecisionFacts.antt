@@ -2,13 +2,14 @@
 use Rattle.std.proofs.Common.{◌≡◌, ℕ, ◌<◌, List, length, refl, sym, ap, ◌∙◌, Bool, true, false, Option, Some, None}
 use Rattle.std.specs.Prelude.{if◌then◌else◌, slice_get, slice_index}
 use Rattle.std.proofs.lemmas.Bool.{false≢true}
-use Rattle.kern_base.specs.Checks.{names_option}
+use Rattle.kern_base.specs.Services.{names_option}
 use Rattle.kern_base.specs.declared.services.Service.{Service}
 use Rattle.kern_base.specs.declared.services.Service.TheVariants.{SemPost, SemPend}
 use Rattle.kern_base.specs.declared.requests.Request.{Request}
 use Rattle.kern_base.specs.declared.errors.OsErr.TheVariants.{OptionInvalid}
 use Rattle.kern_base.specs.declared.outcomes.Decision.{Decision}
 use Rattle.kern_base.specs.declared.outcomes.Decision.TheVariants.{Done, Block, Wake}
+use Rattle.kern_model.specs.Call.{Call}
 use Rattle.kern_model.specs.State.{Kernel, Count, with_content}
 use Rattle.kern_base.specs.declared.outcomes.Answer.{Answer}
 use Rattle.kern_model.specs.Effect.{Effect}
@@ -49,15 +50,15 @@ pub decision-inside : (r : Request) (k : Kernel) (d : Decision) → decision_of 
 decision-inside r k d e h = inside-at r.service r.args k (ap acts e ∙ h)
 
 -- what the call does, where its decision is known
-pub effect-known : (r : Request) (x c h : ℕ) (k : Kernel) (d : Decision) → decision_of r k ≡ d → effect program_serves r x c h k ≡ decided d r x h k
-effect-known r x c h k d e = effect-decided r x c h k ∙ ap (λ d. decided d r x h k) e
+pub effect-known : (call : Call) (k : Kernel) (d : Decision) → decision_of call.request k ≡ d → effect program_serves call k ≡ decided d call.request call.caller call.compared k
+effect-known call k d e = effect-decided call k ∙ ap (λ d. decided d call.request call.caller call.compared k) e
 
-module _ (r : Request) (x c h : ℕ) (k : Kernel) (d : Decision) (e : decision_of r k ≡ d) where
-  pub kernel-known : (decided d r x h k).kernel ≡ (effect program_serves r x c h k).kernel
-  kernel-known = sym (ap (λ (f : Effect). f.kernel) (effect-known r x c h k d e))
+module _ (call : Call) (k : Kernel) (d : Decision) (e : decision_of call.request k ≡ d) where
+  pub kernel-known : (decided d call.request call.caller call.compared k).kernel ≡ (effect program_serves call k).kernel
+  kernel-known = sym (ap (λ (f : Effect). f.kernel) (effect-known call k d e))
 
-  pub outcome-known : (decided d r x h k).outcome ≡ (effect program_serves r x c h k).outcome
-  outcome-known = sym (ap (λ (f : Effect). f.outcome) (effect-known r x c h k d e))
+  pub outcome-known : (decided d call.request call.caller call.compared k).outcome ≡ (effect program_serves call k).outcome
+  outcome-known = sym (ap (λ (f : Effect). f.outcome) (effect-known call k d e))
 
 -- the count after an answer
 pub done-counted : (a : Answer) (r : Request) (x h : ℕ) (k : Kernel) → no_error a.err ≡ true → with_content k (argument r 0) (Count a.value) ≡ (decided (Done a) r x h k).kernel

@@ -1,7 +1,8 @@
 -- A call does what its decision does.
 use Rattle.std.proofs.Common.{◌≡◌, ℕ, zero, suc, ◌<◌, ◌+◌, List, [], ◌∷◌, length, get_or, map, refl, sym, ap, ◌∙◌, Bool, true, false, Option, Some, None, arith}
 use Rattle.std.specs.Prelude.{◌==◌, ◌-◌, ◌^◌, if◌then◌else◌, slice_get}
-use Rattle.kern_base.specs.Checks.{names_option, object_error}
+use Rattle.kern_base.specs.Services.{names_option}
+use Rattle.kern_base.specs.Checks.{object_error}
 use Rattle.kern_base.specs.declared.kinds.Kind.{Kind}
 use Rattle.kern_base.specs.declared.kinds.Kind.TheVariants.{Sem}
 use Rattle.kern_base.specs.declared.services.Service.{Service}
@@ -13,8 +14,9 @@ use Rattle.kern_base.specs.declared.outcomes.Decision.{Decision}
 use Rattle.kern_base.specs.declared.outcomes.Decision.TheVariants.{Done, Block, Wake}
 use Rattle.kern_base.specs.declared.outcomes.Who.TheVariants.{First, All}
 use Rattle.kern_base.specs.declared.outcomes.Waiting.TheVariants.{Obj}
+use Rattle.kern_model.specs.Call.{Call, call_of}
 use Rattle.kern_model.specs.State.{Kernel, Object, Timer, Content, Count, Messages, Bits, Held, Timed, list_at, object_at, no_object, kind_of}
-use Rattle.kern_model.specs.Effect.{Effect, refused, fine, woken, chosen, posted_result, tail, blocks_on, waits_for}
+use Rattle.kern_model.specs.Effect.{Effect, refused, fine, woken, chosen, posted_result, waits_unless, blocks_on, waits_for}
 use Rattle.kern_model.specs.Checks.{argument, call_error, first_error}
 use Rattle.kern_model.specs.Semaphores.{sem_post, sem_post_to, sem_pend}
 use Rattle.kern_model.specs.Services.{effect, after_checks, program_serves}
@@ -69,7 +71,7 @@ pend-decided zero x h r k = go (argument r 2 == 1) (k.lock == 0)
     e : Effect
     e = blocks_on k x (waits_for (Obj SemPend) (argument r 0 ∷ []) (argument r 1))
 
-    go : (b l : Bool) → (tail k b (blocks_on k x (waits_for (Obj SemPend) (argument r 0 ∷ []) (argument r 1)))) ≡ decided (if b then refusal WouldBlock else (if k.lock == 0 then Block else refusal SchedLocked)) r x h k
+    go : (b l : Bool) → (waits_unless k b (blocks_on k x (waits_for (Obj SemPend) (argument r 0 ∷ []) (argument r 1)))) ≡ decided (if b then refusal WouldBlock else (if k.lock == 0 then Block else refusal SchedLocked)) r x h k
     go true l = refl
     go false l = sym (decided-if (k.lock == 0) Block (refusal SchedLocked) r x h k)
 
@@ -122,17 +124,17 @@ module _ (row : Content → Effect) (k : Kernel) where
         ∙ checked-case b (slice_get k.objects o)
 
 -- the two forms of what follows the checks
-post-after : (a : Option OsErr) (args ids : List ℕ) (n_ids : ℕ) (table : Bool) (x c h : ℕ) (k : Kernel) → let r : Request = record { service = SemPost; args = args; ids = ids; n_ids = n_ids; table = table } in after_checks a r x c h k ≡ after (λ content. sem_post content r h k) k a (object_at k (argument r 0)).content
+post-after : (a : Option OsErr) (args ids : List ℕ) (n_ids : ℕ) (table : Bool) (x c h : ℕ) (k : Kernel) → let r : Request = record { service = SemPost; args = args; ids = ids; n_ids = n_ids; table = table } in after_checks a (call_of r x c h) k ≡ after (λ content. sem_post content r h k) k a (object_at k (argument r 0)).content
 unfolding after
 post-after None args ids n_ids table x c h k = refl
 post-after (Some e) args ids n_ids table x c h k = refl
 
-pend-after : (a : Option OsErr) (args ids : List ℕ) (n_ids : ℕ) (table : Bool) (x c h : ℕ) (k : Kernel) → let r : Request = record { service = SemPend; args = args; ids = ids; n_ids = n_ids; table = table } in after_checks a r x c h k ≡ after (λ content. sem_pend content r x k) k a (object_at k (argument r 0)).content
+pend-after : (a : Option OsErr) (args ids : List ℕ) (n_ids : ℕ) (table : Bool) (x c h : ℕ) (k : Kernel) → let r : Request = record { service = SemPend; args = args; ids = ids; n_ids = n_ids; table = table } in after_checks a (call_of r x c h) k ≡ after (λ content. sem_pend content r x k) k a (object_at k (argument r 0)).content
 unfolding after
 pend-after None args ids n_ids table x c h k = refl
 pend-after (Some e) args ids n_ids table x c h k = refl
 
-effect-at : (s : Service) (args ids : List ℕ) (n_ids : ℕ) (table : Bool) (x c h : ℕ) (k : Kernel) → let r : Request = record { service = s; args = args; ids = ids; n_ids = n_ids; table = table } in effect program_serves r x c h k ≡ decided (decision_of r k) r x h k
+effect-at : (s : Service) (args ids : List ℕ) (n_ids : ℕ) (table : Bool) (x c h : ℕ) (k : Kernel) → let r : Request = record { service = s; args = args; ids = ids; n_ids = n_ids; table = table } in effect program_serves (call_of r x c h) k ≡ decided (decision_of r k) r x h k
 unfolding after checks
 effect-at SemPost args ids n_ids table x c h k =
     let r : Request = record { service = SemPost; args = args; ids = ids; n_ids = n_ids; table = table } in
@@ -145,5 +147,5 @@ effect-at SemPend args ids n_ids table x c h k =
 effect-at _ args ids n_ids table x c h k = refl
 
 -- a call does what its decision does
-pub effect-decided : (r : Request) (x c h : ℕ) (k : Kernel) → effect program_serves r x c h k ≡ decided (decision_of r k) r x h k
-effect-decided r x c h k = effect-at r.service r.args r.ids r.n_ids r.table x c h k
+pub effect-decided : (call : Call) (k : Kernel) → effect program_serves call k ≡ decided (decision_of call.request k) call.request call.caller call.compared k
+effect-decided call k = effect-at call.request.service call.request.args call.request.ids call.request.n_ids call.request.table call.caller call.interrupted call.compared k

@@ -6,7 +6,7 @@ pub mod ListFacts
 pub mod ObjectFacts
 pub mod PostFacts
 pub mod ServedFacts
-pub mod StartLaws
+pub mod StartServed
 pub mod StartLists
 pub mod StepCosts
 pub mod WaiterFacts

@@ -11,13 +11,15 @@ use Rattle.kern_base.specs.declared.outcomes.Answer.{Answer}
 use Rattle.kern_base.specs.declared.outcomes.Finished.{Finished}
 use Rattle.kern_base.specs.declared.outcomes.Outcome.{Outcome}
 use Rattle.kern_base.specs.declared.outcomes.Outcome.TheVariants.{Answered, Waits, Gone, Quiet}
-use Rattle.kern_base.specs.Checks.{is_post, IsPost}
+use Rattle.kern_base.specs.Services.{is_post}
+use Rattle.kern_base.specs.Checks.{IsPost}
+use Rattle.kern_model.specs.Call.{Call, call_of}
 use Rattle.kern_model.specs.State.{Kernel, Content, Count, Messages, Bits, Held, Timed, list_at, object_at, with_content}
 use Rattle.kern_model.specs.Effect.{Effect, refused, done, fine}
 use Rattle.kern_model.specs.Checks.{argument, call_error}
 use Rattle.kern_model.specs.Semaphores.{sem_post_to, sem_post}
-use Rattle.kern_model.specs.Services.{posted, program_serves, after_checks, row_of}
-use Rattle.kern_model.proofs.LeadLaws.{choice}
+use Rattle.kern_model.specs.Services.{posted, program_serves, after_checks, perform, post_request}
+use Rattle.kern_model.proofs.Lemmas.{choice}
 
 -- an answer without a table
 abbrev pub IsPlainAnswer : Outcome → Type 0
@@ -38,21 +40,21 @@ plain-sem_post (Bits bits) r h k = refl
 plain-sem_post (Held owner nesting) r h k = refl
 plain-sem_post (Timed t) r h k = refl
 
-plain-row_of : (s : Service) (r : Request) (x c h : ℕ) (k : Kernel) → program_serves s ≡ true → is_post s ≡ true → Plain (row_of s r x c h k)
-plain-row_of SemPost r x c h k e p = plain-sem_post (object_at k (argument r 0)).content r h k
-plain-row_of SemPend r x c h k e p = absurd (false≢true p)
-plain-row_of _ r x c h k e p = absurd (false≢true e)
+plain-perform : (s : Service) (call : Call) (k : Kernel) → program_serves s ≡ true → is_post s ≡ true → Plain (perform s call k)
+plain-perform SemPost call k e p = plain-sem_post (object_at k (argument call.request 0)).content call.request call.compared k
+plain-perform SemPend call k e p = absurd (false≢true p)
+plain-perform _ call k e p = absurd (false≢true e)
 
-plain-checked : (o : Option OsErr) (r : Request) (x c h : ℕ) (k : Kernel) → program_serves r.service ≡ true → is_post r.service ≡ true → Plain (after_checks o r x c h k)
-plain-checked (Some err) r x c h k e p = refl
-plain-checked None r x c h k e p = plain-row_of r.service r x c h k e p
+plain-checked : (o : Option OsErr) (call : Call) (k : Kernel) → program_serves call.request.service ≡ true → is_post call.request.service ≡ true → Plain (after_checks o call k)
+plain-checked (Some err) call k e p = refl
+plain-checked None call k e p = plain-perform call.request.service call k e p
 
-plain-served : (b : Bool) (r : Request) (x c h : ℕ) (k : Kernel) → program_serves r.service ≡ b → is_post r.service ≡ true → Plain (if b then after_checks (call_error r x k) r x c h k else refused k CallUnknown)
-plain-served true r x c h k e p = plain-checked (call_error r x k) r x c h k e p
-plain-served false r x c h k e p = refl
+plain-served : (b : Bool) (call : Call) (k : Kernel) → program_serves call.request.service ≡ b → is_post call.request.service ≡ true → Plain (if b then after_checks (call_error call.request call.caller k) call k else refused k CallUnknown)
+plain-served true call k e p = plain-checked (call_error call.request call.caller k) call k e p
+plain-served false call k e p = refl
 
 pub plain-posted : (s : Service) (args : List ℕ) (c h : ℕ) (k : Kernel) → IsPost s → Plain (posted program_serves s args c h k)
-plain-posted s args c h k p = plain-served (program_serves s) _ 63 c h k refl p
+plain-posted s args c h k p = plain-served (program_serves s) (call_of (post_request s args) 63 c h) k refl p
 
 -- what is answered is all of the outcome
 pub whole-answer : (o : Outcome) (a : Answer) (taken : Option Finished) → IsPlainAnswer o → o ≡ Answered a taken → o ≡ Answered a None

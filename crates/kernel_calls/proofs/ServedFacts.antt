@@ -2,7 +2,7 @@
 use Rattle.std.proofs.Common.{◌≡◌, ℕ, ◌<◌, length, get_or, sym, subst, inl, inr}
 use Rattle.std.proofs.lemmas.Bool.Decides.{eqb_tells}
 use Rattle.kern_model.specs.State.{Kernel, Task, no_task, task_at, update_task}
-use Rattle.kern_model.proofs.Laws.{task-updated, task-other}
+use Rattle.kern_model.proofs.Lemmas.{task-updated, task-other}
 use Rattle.kernel_calls.specs.Served.{IsServed, IsServedWait, IsServedResult}
 
 -- one task changed

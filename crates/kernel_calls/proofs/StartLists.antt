@@ -4,7 +4,7 @@ use Rattle.std.proofs.lemmas.List.{map-append}
 use Rattle.arrayvec.specs.ArrayVec.{ArrayVec}
 use Rattle.app_image.specs.declared.records.TaskDef.{TaskDef}
 use Rattle.kernel_calls.specs.ListView.{lists_in}
-use Rattle.kernel_calls.specs.Start.{tasks_of, ready_from}
+use Rattle.kern_model.specs.Start.{tasks_of, ready_from}
 
 -- one more list
 pub ready-next : (ds : List TaskDef) (p n m : ℕ) (vs new : List (ArrayVec ℕ)) (v : ArrayVec ℕ) (final : List (List ℕ)) → n ≡ suc m → new ≡ vs ++ v ∷ [] → v.items ≡ tasks_of p 0 ds → lists_in vs ++ ready_from ds p n ≡ final → lists_in new ++ ready_from ds (p + 1) m ≡ final

@@ -6,8 +6,8 @@ use Rattle.std.proofs.lemmas.List.Elements.{All-nil, All-cons}
 use Rattle.kern_base.specs.declared.outcomes.Finished.{Finished}
 use Rattle.kern_model.specs.State.{Kernel, Task, task_at, waits_for_nothing}
 use Rattle.kern_model.specs.Effect.{wakes, wakes_all, wake_cost, wakes_cost, chosen}
-use Rattle.kern_model.specs.Valid.{IsValid, AllWait}
-use Rattle.kern_model.proofs.ValidLaws.{AllWait-wakes}
+use Rattle.kern_model.specs.Valid.{IsLinked, AllWait}
+use Rattle.kern_model.proofs.Lemmas.{AllWait-wakes}
 
 -- waiters are numbers of tasks
 pub waiters-below : (k : Kernel) (xs : List ℕ) → AllWait k xs → All (λ x. x < 64) xs
@@ -41,10 +41,10 @@ cost_next k xs i total one sum h w e bound is small =
     (first.3, omega (arith, rest, is), omega (arith, bound))
 
 -- the objects of a task stand among the objects
-pub objects-inside : (k : Kernel) → IsValid k → (x n : ℕ) (t : Task) → t ≡ task_at k x → length k.pend ≡ n → All (λ o. o < n) t.objects
+pub objects-inside : (k : Kernel) → IsLinked k → (x n : ℕ) (t : Task) → t ≡ task_at k x → length k.pend ≡ n → All (λ o. o < n) t.objects
 objects-inside k v x n t e same =
     subst (λ m. All (λ o. o < m) t.objects) same
-    (subst (λ (u : Task). All (λ o. o < length k.pend) u.objects) (sym e) (subst (λ m. All (λ o. o < m) (task_at k x).objects) (sym v.pend) (v.each_task x).objects))
+    (subst (λ (u : Task). All (λ o. o < length k.pend) u.objects) (sym e) (subst (λ m. All (λ o. o < m) (task_at k x).objects) (sym v.sizes.pend) (v.tasks.each_task x).objects))
 
 -- who is woken of those that wait
 pub AllWait-chosen : (k : Kernel) (all : Bool) (xs : List ℕ) → AllWait k xs → AllWait k (chosen all xs)

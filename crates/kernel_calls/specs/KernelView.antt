@@ -1,7 +1,7 @@
 -- What the kernel's fields mean.
 use Rattle.std.specs.Prelude.{[]}
 use Rattle.kern_model.specs.State.{Kernel}
-use Rattle.kern_model.specs.Valid.{IsValid}
+use Rattle.kern_model.specs.Valid.{IsLinked}
 use Rattle.kernel_calls.specs.Served.{IsServed}
 use Rattle.kernel_calls.specs.ListView.{lists_in}
 use Rattle.kernel_calls.specs.KernelRecord.{KernelRecord}
@@ -34,5 +34,5 @@ kernel_of a = record { state = state_of a; registers = a.tasks.registers }
 
 -- what is always true of the fields
 pub record IsSound (a : Inside) : Type 0 where
-  pub valid : IsValid (state_of a)
+  pub valid : IsLinked (state_of a)
   pub served : IsServed (state_of a)

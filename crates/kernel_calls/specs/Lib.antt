@@ -1,5 +1,4 @@
 pub mod KernelRecord
-pub mod Start
 pub mod ObjectView
 pub mod ListView
 pub mod TaskChanges

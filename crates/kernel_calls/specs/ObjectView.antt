@@ -1,7 +1,7 @@
 -- What an object's fields mean.
 use Rattle.std.specs.Prelude.{[], None, List, map}
 use Rattle.kern_model.specs.State as state
-use Rattle.kernel_calls.specs.Start.{callback_of}
+use Rattle.kern_model.specs.Start.{callback_of}
 use Rattle.kernel_calls.specs.declared.objects.Timer.{Timer}
 use Rattle.kernel_calls.specs.declared.objects.Content.{Content}
 use Rattle.kernel_calls.specs.declared.objects.Content.TheVariants.{Count, Messages, Bits, Free, Timed}

@@ -2,6 +2,7 @@
 use Rattle.std.specs.Prelude.{ℕ, ◌≡◌, ◌⊎◌, ◌<◌, ◌≤◌, ◌+◌, ◌-◌}
 use Rattle.kern_base.specs.Checks.{IsPost}
 use Rattle.kern_base.specs.declared.requests.Request.{Request}
+use Rattle.kern_model.specs.Call.{call_of}
 use Rattle.kern_model.specs.State.{Kernel}
 use Rattle.kern_model.specs.Effect.{Effect}
 use Rattle.kern_model.specs.Services.{effect, program_serves, cost, post_request}
@@ -23,11 +24,11 @@ MayBegin x r k = MayCall x k ⊎ ((x ≡ 63) × IsPost r.service × (r ≡ post_
 
 -- what the whole step does in all
 abbrev pub effect_of : WorkRecord → Kernel → Effect
-effect_of w k = effect program_serves w.request w.caller w.compared w.head k
+effect_of w k = effect program_serves (call_of w.request w.caller w.compared w.head) k
 
 -- the work at its beginning
 abbrev pub begun : ℕ → Request → ℕ → ℕ → Kernel → WorkRecord
-begun x r c h k = record { caller = x; request = r; compared = c; head = h; done = 0; left = cost (effect program_serves r x c h k) k }
+begun x r c h k = record { caller = x; request = r; compared = c; head = h; done = 0; left = cost (effect program_serves (call_of r x c h) k) k }
 
 -- The work was begun on this kernel, and so many of its micro-steps are done and left.
 pub record IsBegun (w : WorkRecord) (k : Kernel) : Type 0 where

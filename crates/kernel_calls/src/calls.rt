@@ -4,11 +4,12 @@ ghost use Rattle.std.specs.Prelude.{◌≡◌, ◌<◌, ◌+◌, ◌*◌, ◌≤
 ghost use Rattle.kern_base.specs.declared.services.Service.TheVariants.{SemPend};
 ghost use Rattle.kern_base.specs.declared.outcomes.Outcome.TheVariants.{Answered};
 ghost use Rattle.kern_base.specs.declared.outcomes.Waiting.TheVariants.{Obj};
+ghost use Rattle.kern_model.specs.Call.{call_of};
 ghost use Rattle.kern_model.specs.State.{task_at, list_at, is_ready, prio_of, waits_for_nothing, update_object, with_content, Count};
 ghost use Rattle.kern_model.specs.Effect.{wakes, wakes_all, chosen, blocked, waits_for, posted_result, fine, new_match, wakes_cost};
 ghost use Rattle.kern_model.specs.Micro.{wait_place};
 ghost use Rattle.kern_model.specs.Services.{effect, posted, program_serves, cost};
-ghost use Rattle.kern_model.specs.Valid.{IsValid, MayCall};
+ghost use Rattle.kern_model.specs.Valid.{IsLinked, MayCall};
 ghost use Rattle.kernel_calls.specs.KernelRecord.{with_state};
 ghost use Rattle.kernel_calls.specs.ObjectView.{objects_in};
 ghost use Rattle.kernel_calls.specs.Decisions.{decision_of, post_decision, pend_decision, live_count, with_count, no_error, is_all};
@@ -37,7 +38,7 @@ impl Kernel {
         requires may { MayBegin caller.0 request self.now.state }
         ensures work { result ≡ begun caller.0 request compared.0 head.0 self.now.state }
         ensures begun { IsBegun result self.now.state }
-        ensures valid { IsValid self.now.state }
+        ensures valid { IsLinked self.now.state }
     {
         let _ = &self.lock;
         let left = self.micro_steps(caller, &request);
@@ -64,7 +65,7 @@ impl Kernel {
         // The last one.
         ensures done { work.old.left ≡ 1 → result ≡ Progress.Done (effect_of work.old self.old.state).outcome }
         ensures kernel { work.old.left ≡ 1 → self.new ≡ with_state self.old (effect_of work.old self.old.state).kernel }
-        ensures valid { IsValid self.new.state }
+        ensures valid { IsLinked self.new.state }
     {
         work.done += 1;
         work.left -= 1;
@@ -80,7 +81,7 @@ impl Kernel {
     pub fn post_now(&mut self, post: Post, compared: Prio) -> Answer
         ensures answer { (posted program_serves post.service post.args compared.0 compared.0 self.old.state).outcome ≡ Answered result None }
         ensures kernel { self.new ≡ with_state self.old (posted program_serves post.service post.args compared.0 compared.0 self.old.state).kernel }
-        ensures valid { IsValid self.new.state }
+        ensures valid { IsLinked self.new.state }
     {
         let args = post.args;
         let request = Request {
@@ -99,7 +100,7 @@ impl Kernel {
     // How many micro-steps a call takes.
     fn micro_steps(&self, caller: TaskId, request: &Request) -> u32
         requires task { caller.0 < 64 }
-        ensures value { (c h : ℕ) → result ≡ cost (effect program_serves request.now caller.0 c h self.now.state) self.now.state }
+        ensures value { (c h : ℕ) → result ≡ cost (effect program_serves (call_of request.now caller.0 c h) self.now.state) self.now.state }
         ensures some { 2 ≤ result }
         ensures few { result ≤ 1200 }
     {
@@ -114,9 +115,9 @@ impl Kernel {
     fn perform(&mut self, caller: TaskId, request: &Request, head: Prio) -> Outcome
         requires task { caller.0 < 64 }
         requires may { MayBegin caller.0 request.now self.old.state }
-        ensures outcome { (c : ℕ) → result ≡ (effect program_serves request.now caller.0 c head.0 self.old.state).outcome }
-        ensures kernel { (c : ℕ) → self.new ≡ with_state self.old (effect program_serves request.now caller.0 c head.0 self.old.state).kernel }
-        ensures valid { IsValid self.new.state }
+        ensures outcome { (c : ℕ) → result ≡ (effect program_serves (call_of request.now caller.0 c head.0) self.old.state).outcome }
+        ensures kernel { (c : ℕ) → self.new ≡ with_state self.old (effect program_serves (call_of request.now caller.0 c head.0) self.old.state).kernel }
+        ensures valid { IsLinked self.new.state }
     {
         let _ = &self.lock;
         match self.decide(request) {
@@ -225,7 +226,7 @@ impl Kernel {
     fn set_count(&mut self, object: u32, count: u32)
         requires { object < length self.old.state.objects }
         ensures counted { self.new ≡ with_state self.old (with_content self.old.state object (Count count)) }
-        ensures valid { IsValid self.new.state }
+        ensures valid { IsLinked self.new.state }
     {
         write_count(&mut self.objects, object, count);
     }
@@ -248,7 +249,7 @@ impl Kernel {
         requires unlocked { self.old.state.lock ≡ 0 }
         requires object { object < length self.old.state.objects }
         ensures blocked { self.new ≡ with_state self.old (blocked self.old.state task.0 (waits_for (Obj SemPend) (object ∷ []) timeout)) }
-        ensures valid { IsValid self.new.state }
+        ensures valid { IsLinked self.new.state }
     {
         let prio = self.tasks.get(task).prio.0;
         let waiters = tasks_at(&self.pend, object as usize);
@@ -265,7 +266,7 @@ impl Kernel {
         requires waits { waits_for_nothing (task_at self.old.state task).waiting ≡ false }
         ensures woken { self.new ≡ with_state self.old (wakes semaphore_result head.0 task self.old.state) }
         ensures result { (o : ℕ) → posted_result o (fine 0) (task_at self.old.state task) ≡ semaphore_result }
-        ensures valid { IsValid self.new.state }
+        ensures valid { IsLinked self.new.state }
     {
         let tcb = *self.tasks.get(TaskId(task));
         answer_task(&mut self.tasks, TaskId(task));
@@ -278,7 +279,7 @@ impl Kernel {
     fn wake_waiters(&mut self, object: u32, all: bool, head: Prio)
         requires { object < length self.old.state.objects }
         ensures woken { self.new ≡ with_state self.old (wakes_all (posted_result object (fine 0)) head.0 (chosen all (list_at self.old.state.pend object)) self.old.state) }
-        ensures valid { IsValid self.new.state }
+        ensures valid { IsLinked self.new.state }
     {
         let mut woken = ArrayVec::new();
         copy_tasks(&self.pend, object as usize, all, &mut woken);

@@ -2,12 +2,13 @@
 
 ghost use Rattle.std.specs.Prelude.{◌≡◌, ◌<◌, true, false, IfOk, Some, slice_set, slice_index_or};
 ghost use Rattle.kern_model.specs.State.{task_at, pick, is_ready};
-ghost use Rattle.kern_model.specs.Valid.{IsValid, has_result};
+ghost use Rattle.kern_model.specs.Valid.{IsLinked, has_result};
 ghost use Rattle.kern_model.specs.Finish.{finished};
 ghost use Rattle.kern_model.specs.Stop.{stopped};
-ghost use Rattle.tcb_pool.specs.TaskView.{task_of, no_registers};
-ghost use Rattle.kernel_calls.specs.Start.{start_of};
-ghost use Rattle.kernel_calls.specs.KernelRecord.{with_state};
+ghost use Rattle.tcb_pool.specs.TaskView.{task_of};
+ghost use Rattle.rv32_exec.specs.Exec.{exec};
+ghost use Rattle.rv32_exec.specs.Registers.{no_registers};
+ghost use Rattle.kernel_calls.specs.KernelRecord.{start_of, with_state};
 
 use crate::lists::{depart, first};
 use crate::objects::Object;
@@ -16,7 +17,7 @@ use crate::tasks::{clear_result, stop_task};
 use app_image::Image;
 use arrayvec::ArrayVec;
 use kern_base::{Finished, NoMemory, TaskId};
-use rv32_exec::Regs;
+use rv32_exec::{Program, Ram, Regs, Stepped};
 use std::alloc::Global;
 use std::marker::Model;
 use tcb_pool::{Tcb, Tcbs};
@@ -68,7 +69,7 @@ impl Kernel {
     /// memory of a run.
     pub fn new(alloc: Global, image: &Image) -> Result<Kernel, NoMemory>
         ensures start { IfOk result (λ k. k ≡ start_of image.now) }
-        ensures valid { IfOk result (λ k. IsValid k.state) }
+        ensures valid { IfOk result (λ k. IsLinked k.state) }
     {
         let lists = start_lists(alloc, image)?;
         let config = image.config();
@@ -99,7 +100,7 @@ impl Kernel {
     /// The task that the scheduler picks: the first ready task of the highest priority.
     pub fn pick(&self) -> TaskId
         ensures value { result.0 ≡ pick self.now.state }
-        ensures valid { IsValid self.now.state }
+        ensures valid { IsLinked self.now.state }
     {
         TaskId(first(&self.ready))
     }
@@ -107,7 +108,7 @@ impl Kernel {
     /// How often the scheduler is locked, 0 to 250.
     pub fn lock(&self) -> u8
         ensures value { result ≡ self.now.state.lock }
-        ensures valid { IsValid self.now.state }
+        ensures valid { IsLinked self.now.state }
     {
         self.lock
     }
@@ -117,9 +118,20 @@ impl Kernel {
         requires { task.0 < 64 }
         ensures task { task_of result.now ≡ task_at self.now.state task.0 }
         ensures registers { result.now.regs ≡ slice_index_or self.now.registers task.0 no_registers }
-        ensures valid { IsValid self.now.state }
+        ensures valid { IsLinked self.now.state }
     {
         self.tasks.get(task)
+    }
+
+    /// Runs one instruction on the registers of a task, where they stand. A trap changes nothing.
+    #[inline(always)]
+    pub fn run_task(&mut self, task: TaskId, program: &Program, ram: &mut Ram) -> Stepped
+        requires { task.0 < 64 }
+        ensures registers { self.new ≡ record self.old { registers = slice_set self.old.registers task.0 (exec program.now (slice_index_or self.old.registers task.0 no_registers) ram.old).registers } }
+        ensures memory { ram.new ≡ (exec program.now (slice_index_or self.old.registers task.0 no_registers) ram.old).memory }
+        ensures did { result ≡ (exec program.now (slice_index_or self.old.registers task.0 no_registers) ram.old).did }
+    {
+        self.tasks.run(task, program, ram)
     }
 
     /// Writes the registers of a task, and changes nothing else.
@@ -138,7 +150,7 @@ impl Kernel {
         ensures result { (task_at self.old.state task.0).answered ≡ Some result }
         ensures no_table { result.n_ids ≡ 0 }
         ensures kernel { self.new ≡ with_state self.old (finished task.0 self.old.state) }
-        ensures valid { IsValid self.new.state }
+        ensures valid { IsLinked self.new.state }
     {
         let result = self.tasks.get(task).result.unwrap();
         clear_result(&mut self.tasks, task);
@@ -151,7 +163,7 @@ impl Kernel {
         requires ready { is_ready (task_at self.old.state task.0) ≡ true }
         requires quiet { self.old.state.processing ≡ false }
         ensures kernel { self.new ≡ with_state self.old (stopped task.0 self.old.state) }
-        ensures valid { IsValid self.new.state }
+        ensures valid { IsLinked self.new.state }
     {
         let prio = self.tasks.get(task).prio;
         stop_task(&mut self.tasks, task);

@@ -11,7 +11,6 @@ mod work;
 
 pub use kern_base::{Outcome, UnitEnd};
 pub use kernels::Kernel;
-pub use tcb_pool::LEAVE;
 pub use work::{Progress, Work};
 
 #[cfg(test)]

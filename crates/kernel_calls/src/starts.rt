@@ -2,7 +2,7 @@
 
 ghost use Rattle.std.specs.Prelude.{◌≡◌, ◌<◌, ◌≤◌, ◌+◌, [], ◌∷◌, ◌++◌, length, map, replicate, IfOk, All, slice_index_or};
 ghost use Rattle.kern_model.specs.Valid.{IsContent};
-ghost use Rattle.kernel_calls.specs.Start.{tasks_of, ready_from, object_of, timer_of};
+ghost use Rattle.kern_model.specs.Start.{tasks_of, ready_from, object_of, timer_of};
 ghost use Rattle.kernel_calls.specs.ListView.{lists_in};
 ghost use Rattle.kernel_calls.specs.ObjectView.{object_seen, objects_in, timer_seen};
 

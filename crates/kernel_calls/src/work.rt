@@ -1,6 +1,8 @@
 // A whole step in hand.
 
-use kern_base::{Outcome, Prio, Request, TaskId};
+ghost use Rattle.std.specs.Prelude.{◌≡◌};
+
+use kern_base::{Outcome, Prio, Request, Service, TaskId};
 use std::marker::Model;
 
 /// A whole step in hand: a call of a service that was begun, and how many of its micro-steps are done
@@ -23,6 +25,15 @@ impl Model for Work {
     ghost use Rattle.kernel_calls.specs.WorkView.{work_of};
 
     ghost view = { work_of };
+}
+
+impl Work {
+    /// The service that is called.
+    pub fn service(&self) -> Service
+        ensures { result ≡ self.now.request.service }
+    {
+        self.request.service
+    }
 }
 
 /// What one micro-step came to.

@@ -1,23 +1,20 @@
 -- Which task acts in a still kernel: one of the application, or the idle task.
 use Rattle.std.specs.Prelude.{◌==◌, ◌&&◌, nat_lt, length, ◌≢◌}
 use Rattle.std.proofs.lemmas.List.{get_or_past}
-use Rattle.std.proofs.Common.{◌≡◌, ◌<◌, ◌≤◌, ℕ, Bool, true, false, refl, subst, arith, ltb-true, ltb-false}
+use Rattle.std.proofs.Common.{◌≡◌, ◌<◌, ◌≤◌, ℕ, Bool, true, false, refl, subst, arith, ltb-true, ltb-false, inl, inr, List, [], ◌∷◌, None, sym, ◌∙◌}
 use Rattle.kern_base.specs.declared.kinds.Method.TheVariants.{Direct}
 use Rattle.kern_base.specs.declared.outcomes.Waiting.TheVariants.{Signal}
 use Rattle.kern_model.specs.State.{Kernel, Task, task_at, no_task, is_ready}
 use Rattle.kern_model.specs.Services.{program_serves}
-use Rattle.kern_model.specs.Valid.{IsValid}
-use Rattle.kern_model.proofs.Tests.{equal, unequal}
-use Rattle.isr_nesting.specs.Frames.{FrameRecord}
-use Rattle.machine_laws.specs.Valid.{HoldsLock, IsAtRest}
-use Rattle.machine_laws.proofs.RestLaws.{rest-of}
-use Rattle.std.proofs.Common.{inl, inr, List, [], ◌∷◌, None, sym, ◌∙◌}
+use Rattle.kern_model.specs.Valid.{IsLinked}
+use Rattle.kern_model.proofs.Lemmas.{equal, unequal}
+use Rattle.machine_model.specs.Frames.{FrameRecord}
+use Rattle.machine_laws.specs.Valid.{HoldsLock, IsAtRest, IsValidMachine}
+use Rattle.machine_laws.proofs.RestLaws.{rest-of, IsActing}
 use Rattle.machine_model.specs.Machine.{Machine}
 use Rattle.machine_model.specs.Rules.{Rule, TaskActs, rule}
 use Rattle.machine_laws.specs.RuleTable.{Applies}
-use Rattle.machine_laws.specs.Valid.{IsValidMachine}
 use Rattle.machine_laws.proofs.RuleFacts.{applies}
-use Rattle.machine_laws.proofs.RestLaws.{IsActing}
 use Rattle.machine_laws.proofs.ActValid.{act}
 use Rattle.machine_laws.proofs.PickLaws.{ready-below}
 use Rattle.machine_core.specs.Valid.{IsStill}
@@ -34,24 +31,24 @@ rests t e ready = rests_at t.alive (rw e at ready)
 gone : (t : Task) → t.alive ≡ false → is_ready t ≡ true → ⊥
 gone t e ready = let h : false ≡ true = rw e at ready in cc
 
-tick_rests : (k : Kernel) → IsValid k → IsStill k → is_ready (task_at k 60) ≡ true → ⊥
-tick_rests k v s ready = rests (task_at k 60) (rw s.tick_signals at v.tick_waits) ready
+tick_rests : (k : Kernel) → IsLinked k → IsStill k → is_ready (task_at k 60) ≡ true → ⊥
+tick_rests k v s ready = rests (task_at k 60) (rw s.tick_signals at v.internal.tick_waits) ready
 
-timer_rests : (k : Kernel) → IsValid k → IsStill k → is_ready (task_at k 61) ≡ true → ⊥
-timer_rests k v s ready = rests (task_at k 61) (rw (s.timer_signals, s.processing) at v.timer_waits) ready
+timer_rests : (k : Kernel) → IsLinked k → IsStill k → is_ready (task_at k 61) ≡ true → ⊥
+timer_rests k v s ready = rests (task_at k 61) (rw (s.timer_signals, s.processing) at v.internal.timer_waits) ready
 
-no_such_task : (k : Kernel) → IsValid k → (x : ℕ) → 64 ≤ x → is_ready (task_at k x) ≡ true → ⊥
+no_such_task : (k : Kernel) → IsLinked k → (x : ℕ) → 64 ≤ x → is_ready (task_at k x) ≡ true → ⊥
 no_such_task k v x p ready =
-    let past : length k.tasks ≤ x = omega (arith, v.tasks, p) in
+    let past : length k.tasks ≤ x = omega (arith, v.sizes.tasks, p) in
     let e : task_at k x ≡ no_task = get_or_past k.tasks x no_task past in
     let h : is_ready no_task ≡ true = rw e at ready in
     cc
 
-pub application_acts : (k : Kernel) → IsValid k → IsStill k → (x : ℕ) → is_ready (task_at k x) ≡ true → x ≢ 62 → x < 60
+pub application_acts : (k : Kernel) → IsLinked k → IsStill k → (x : ℕ) → is_ready (task_at k x) ≡ true → x ≢ 62 → x < 60
 application_acts k v s x ready other =
     let tick : x ≡ 60 → ⊥ = λ e. tick_rests k v s (subst (λ y. is_ready (task_at k y) ≡ true) e ready) in
     let timer : x ≡ 61 → ⊥ = λ e. timer_rests k v s (subst (λ y. is_ready (task_at k y) ≡ true) e ready) in
-    let handler : x ≡ 63 → ⊥ = λ e. gone (task_at k 63) v.handler (subst (λ y. is_ready (task_at k y) ≡ true) e ready) in
+    let handler : x ≡ 63 → ⊥ = λ e. gone (task_at k 63) v.internal.handler (subst (λ y. is_ready (task_at k y) ≡ true) e ready) in
     let past : 64 ≤ x → ⊥ = λ p. no_such_task k v x p ready in
     by_order (nat_lt x 64) refl tick timer handler past
   where

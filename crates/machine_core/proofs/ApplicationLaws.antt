@@ -5,7 +5,8 @@ use Rattle.kern_base.specs.declared.services.Service.{Service}
 use Rattle.kern_model.specs.State.{Kernel, tick_task, timer_task, idle_task}
 use Rattle.rv32_exec.specs.Exec.{exec}
 use Rattle.machine_model.specs.Machine.{Machine, registers_at}
-use Rattle.machine_model.specs.Acts.{acts, instructs, works_in_units}
+use Rattle.kern_model.specs.Stop.{stopped}
+use Rattle.machine_model.specs.Acts.{acts, instructs, trapped, works_in_units}
 
 -- its number is another than that of a later task
 other : (x n : ℕ) → x < n → (x == n) ≡ false
@@ -22,3 +23,7 @@ pub acts-application : (served : Service → Bool) (x : ℕ) (m : Machine) → x
 acts-application served x m p =
     let idle : (x == idle_task) ≡ false = other x 62 (omega (arith, p)) in
     rw (idle, works-application x m.kernel p) refl
+
+-- a trap stops it
+pub trapped-application : (x : ℕ) (k : Kernel) → x < 60 → trapped x k ≡ stopped x k
+trapped-application x k p = rw (other x 61 (omega (arith, p))) refl

@@ -1,15 +1,15 @@
 -- Which interrupt comes, and what goes on where none does.
 use Rattle.std.specs.List.{Contains}
 use Rattle.machine_laws.proofs.DueLaws.{due-is}
-use Rattle.std.specs.Prelude.{is_some, IsSomeAnd, ◌==◌, ◌&&◌, not, nat_le, is_none, is_some, option_map, slice_get, IsSomeAnd, drop}
+use Rattle.std.specs.Prelude.{is_some, IsSomeAnd, ◌==◌, ◌&&◌, not, nat_le, is_none, option_map, slice_get, drop}
 use Rattle.std.proofs.Common.{◌≡◌, inl, inr, ◌<◌, ◌≤◌, ℕ, Bool, true, false, List, [], ◌∷◌, Option, Some, None, refl, sym, ap, ◌∙◌, arith}
 use Rattle.std.proofs.lemmas.Bool.Decides.{leb_tells}
 use Rattle.kern_base.specs.declared.kinds.Method.TheVariants.{Direct}
-use Rattle.isr_nesting.specs.Frames.{FrameRecord, level_of}
-use Rattle.isr_nesting.specs.Due.{Place, due, taken_at}
+use Rattle.machine_model.specs.Frames.{FrameRecord, level_of}
+use Rattle.machine_model.specs.Due.{Place, due, taken_at}
 use Rattle.isr_nesting.specs.Nest.{IsRising, due_number, interrupts, number_at, waiting_at, without_number}
 use Rattle.isr_nesting.proofs.EnterLaws.{MayEnter, due-enters}
-use Rattle.machine_core.specs.declared.machine.InHand.{InHand}
+use Rattle.kernel_calls.specs.Works.{WorkRecord}
 use Rattle.machine_core.specs.declared.machine.Machine.TheInside.{Inside}
 use Rattle.machine_model.specs.Machine.{Machine}
 use Rattle.machine_model.specs.Settling.{is_free}
@@ -17,7 +17,7 @@ use Rattle.machine_model.specs.Rules.{Enters, FrameLimit, FrameRuns, rule, rule_
 use Rattle.machine_core.specs.MachineView.{machine_of, hand_of}
 
 -- whether nothing is in hand
-pub free-is : (o : Option InHand) → is_free (hand_of o) ≡ is_none o
+pub free-is : (o : Option WorkRecord) → is_free (hand_of o) ≡ is_none o
 free-is None = refl
 free-is (Some h) = refl
 
@@ -70,7 +70,7 @@ pub may-enter : (a : Inside) (number : ℕ) → Comes a number → IsSomeAnd (wa
 may-enter a number c = rw c.waits c.above
 
 -- what the code asks: whether something is in hand
-pub free-told : (o : Option InHand) (free : Bool) → is_some o ≡ not free → free ≡ is_none o
+pub free-told : (o : Option WorkRecord) (free : Bool) → is_some o ≡ not free → free ≡ is_none o
 free-told o true e = rw e refl
 free-told o false e = rw e refl
 

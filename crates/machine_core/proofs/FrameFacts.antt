@@ -9,6 +9,7 @@ use Rattle.kern_base.specs.declared.numbers.TaskId.{TaskId}
 use Rattle.kern_base.specs.declared.errors.OsErr.{OsErr}
 use Rattle.kern_base.specs.declared.services.Service.{Service}
 use Rattle.kern_base.specs.declared.services.Service.TheVariants.{SemPost, SemPend}
+use Rattle.kern_model.specs.Call.{call_of}
 use Rattle.kern_model.specs.State.{Kernel, prio_of, kinds_of}
 use Rattle.kern_model.specs.Services.{posted, post_request, program_serves}
 use Rattle.kernel_calls.specs.KernelRecord.{KernelRecord, with_state}
@@ -16,20 +17,19 @@ use Rattle.rv32_exec.specs.Registers.{Registers, read}
 use Rattle.rv32_exec.specs.Exec.{Execution, exec}
 use Rattle.rv32_exec.specs.declared.Stepped.{Stepped}
 use Rattle.rv32_exec.specs.declared.TrapKind.{TrapKind}
-use Rattle.tcb_pool.specs.declared.tables.TheConstants.{LEAVE}
+use Rattle.kern_base.specs.Numbers.{leave}
 use Rattle.machine_model.specs.declared.events.How.{How}
 use Rattle.machine_model.specs.declared.events.How.TheVariants as how
 use Rattle.machine_model.specs.declared.events.What.{What}
 use Rattle.machine_model.specs.declared.events.What.TheVariants.{Quiet, St, Irq}
-use Rattle.isr_nesting.specs.FrameView.{with_top}
-use Rattle.isr_nesting.specs.Marks.{marks_after, next_instruction}
+use Rattle.machine_model.specs.Marks.{marks_after, next_instruction}
 use Rattle.machine_core.proofs.QuietExec.{KeepsIf, keeps-exec}
 use Rattle.kern_base.specs.Services.{service_of}
 use Rattle.rv32_exec.specs.declared.Stepped.TheVariants.{Next, Call, Trap, Stored}
-use Rattle.isr_nesting.specs.Frames.{FrameRecord, Interrupt, entered, none_stands}
-use Rattle.isr_nesting.specs.Due.{taken_at, is_step}
+use Rattle.machine_model.specs.Frames.{FrameRecord, Interrupt, entered, none_stands}
+use Rattle.machine_model.specs.Due.{taken_at, is_step}
 use Rattle.isr_nesting.specs.Nest.{Nest, interrupts, waiting_at, without_number}
-use Rattle.machine_core.specs.declared.machine.InHand.{InHand}
+use Rattle.kernel_calls.specs.Works.{WorkRecord}
 use Rattle.machine_core.specs.declared.machine.Machine.TheInside.{Inside}
 use Rattle.machine_model.specs.Machine.{Machine}
 use Rattle.machine_model.specs.Answers.{Change}
@@ -95,7 +95,7 @@ locked-is lock = elim (eqb_tells lock 0) [ inl e ↦ rw (e.0, e.1) refl | inr e 
 
 -- A frame leaves.
 
-nothing-held : (o : Option InHand) → hand_of o ≡ None → is_free (hand_of o) ≡ true
+nothing-held : (o : Option WorkRecord) → hand_of o ≡ None → is_free (hand_of o) ≡ true
 nothing-held o e = rw e refl
 
 -- where a frame stands nothing is in hand
@@ -127,7 +127,7 @@ calls-by SemPend args f below regs m = refl
 calls-by _ args f below regs m = refl
 
 pub still-called : (s : Service) (args : List ℕ) (f : FrameRecord) (regs : Registers) (p : ℕ) (k : Kernel) → IsStill k → IsStill (called_by s args f regs p k).kernel
-still-called SemPost args f regs p k h = still-effect (post_request SemPost args) 63 p p k h
+still-called SemPost args f regs p k h = still-effect (call_of (post_request SemPost args) 63 p p) k h
 still-called _ args f regs p k h = h
 
 -- The vectors stay within their numbers.
@@ -162,37 +162,32 @@ limit-change a f below r = by_rule (machine_of a) (FrameLimit f below) r
 
 -- One instruction of the top frame.
 
--- the top frame as it was written
-pub top-written : (a : Inside) (f : FrameRecord) (below : List FrameRecord) (n : Nest) (regs : Registers) (used : ℕ) (marks : List ℕ) → a.frames.frames ≡ f ∷ below → n ≡ record { frames = with_top (λ g. record g { registers = regs; used = used; marks = marks }) a.frames.frames; waiting = a.frames.waiting }
-    → n ≡ record { frames = record f { registers = regs; used = used; marks = marks } ∷ below; waiting = a.frames.waiting }
-top-written a f below n regs used marks top e = e ∙ ap (λ (fs : List FrameRecord). record { frames = with_top (λ g. record g { registers = regs; used = used; marks = marks }) fs; waiting = a.frames.waiting }) top
-
 module _ (a : Inside) (f : FrameRecord) (below : List FrameRecord) (r : rule Direct (machine_of a) ≡ FrameRuns f below) where
   abbrev pub e : Execution
-  e = exec a.code.items f.registers a.ram
+  e = exec a.program f.registers a.ram
 
   abbrev pub marks : List ℕ
-  marks = marks_after (next_instruction a.code.items f.registers) f.marks
+  marks = marks_after (next_instruction a.program f.registers) f.marks
 
   by_outcome : (did : Stepped) → e.did ≡ did → change (machine_of a) ≡ frame_did program_serves Direct did e f below marks (machine_of a)
   by_outcome did same = by_rule (machine_of a) (FrameRuns f below) r ∙ ap (λ (d : Stepped). frame_did program_serves Direct d e f below marks (machine_of a)) same
 
   quiet : (did : Stepped) → e.did ≡ did → KeepsIf did a.ram e.memory
-  quiet did same = subst (λ (d : Stepped). KeepsIf d a.ram e.memory) same (keeps-exec a.code.items f.registers a.ram)
+  quiet did same = subst (λ (d : Stepped). KeepsIf d a.ram e.memory) same (keeps-exec a.program f.registers a.ram)
 
-  returns : (e.registers.pc == LEAVE) ≡ true → frame_goes_on program_serves Direct f below e.registers marks (machine_of a) ≡ leaves how.Ret f below (machine_of a)
+  returns : (e.registers.pc == leave) ≡ true → frame_goes_on program_serves Direct f below e.registers marks (machine_of a) ≡ leaves how.Ret f below (machine_of a)
   returns t = rw t refl
 
-  stays : (e.registers.pc == LEAVE) ≡ false → frame_goes_on program_serves Direct f below e.registers marks (machine_of a) ≡ record { what = Quiet; machine = record (machine_of a) { frames = ran f e.registers marks ∷ below } }
+  stays : (e.registers.pc == leave) ≡ false → frame_goes_on program_serves Direct f below e.registers marks (machine_of a) ≡ record { what = Quiet; machine = record (machine_of a) { frames = ran f e.registers marks ∷ below } }
   stays t = rw t refl
 
-  pub return-change : e.did ≡ Next → (e.registers.pc == LEAVE) ≡ true → change (machine_of a) ≡ leaves how.Ret f below (machine_of a)
+  pub return-change : e.did ≡ Next → (e.registers.pc == leave) ≡ true → change (machine_of a) ≡ leaves how.Ret f below (machine_of a)
   return-change did t = by_outcome Next did ∙ returns t
 
   pub trap-change : (kind : TrapKind) (pc : ℕ) → e.did ≡ Trap kind pc → change (machine_of a) ≡ leaves (how.Trap kind pc) f below (machine_of a)
   trap-change kind pc did = by_outcome (Trap kind pc) did
 
-  pub stay-change : e.did ≡ Next → (e.registers.pc == LEAVE) ≡ false → change (machine_of a) ≡ record { what = Quiet; machine = record (machine_of a) { frames = ran f e.registers marks ∷ below } }
+  pub stay-change : e.did ≡ Next → (e.registers.pc == leave) ≡ false → change (machine_of a) ≡ record { what = Quiet; machine = record (machine_of a) { frames = ran f e.registers marks ∷ below } }
   stay-change did t = by_outcome Next did ∙ stays t
 
   pub store-change : (addr width value : ℕ) → e.did ≡ Stored addr width value → change (machine_of a) ≡ record { what = St (64 + f.vector) addr width value; machine = record (machine_of a) { memory = e.memory; frames = ran f e.registers marks ∷ below } }
@@ -215,16 +210,15 @@ module _ (a : Inside) (f : FrameRecord) (below : List FrameRecord) (r : rule Dir
 
   module _ (k : IsKept a) (top : a.frames.frames ≡ f ∷ below) where
     -- the top frame goes on
-    pub top-machine : (what : What) (memory : List ℕ) (n : Nest) (regs : Registers) (ms : List ℕ) → change (machine_of a) ≡ record { what = what; machine = record (machine_of a) { memory = memory; frames = ran f e.registers marks ∷ below } } → regs ≡ e.registers → ms ≡ marks
-        → n ≡ record { frames = with_top (λ g. record g { registers = regs; used = f.used + 1; marks = ms }) a.frames.frames; waiting = a.frames.waiting } → machine_of (record a { ram = memory; frames = n }) ≡ (change (machine_of a)).machine
-    top-machine what memory n regs ms c same_regs same_marks nest =
-        rw (top-written a f below n regs (f.used + 1) ms top nest, same_regs, same_marks) refl ∙ ap (λ (d : Change). d.machine) (sym c)
+    pub top-machine : (what : What) (memory : List ℕ) (n : Nest) (ms : List ℕ) → change (machine_of a) ≡ record { what = what; machine = record (machine_of a) { memory = memory; frames = ran f e.registers marks ∷ below } } → ms ≡ marks
+        → n ≡ record { frames = ran f e.registers ms ∷ below; waiting = a.frames.waiting } → machine_of (record a { ram = memory; frames = n }) ≡ (change (machine_of a)).machine
+    top-machine what memory n ms c same_marks nest = rw (nest, same_marks) refl ∙ ap (λ (d : Change). d.machine) (sym c)
 
-    pub top-kept : (what : What) (memory : List ℕ) (n : Nest) (regs : Registers) (ms : List ℕ) → change (machine_of a) ≡ record { what = what; machine = record (machine_of a) { memory = memory; frames = ran f e.registers marks ∷ below } } → regs ≡ e.registers → ms ≡ marks
-        → n ≡ record { frames = with_top (λ g. record g { registers = regs; used = f.used + 1; marks = ms }) a.frames.frames; waiting = a.frames.waiting } → a.t < most_task_steps → IsKept (record a { ram = memory; frames = n })
-    top-kept what memory n regs ms c same_regs same_marks nest open_yet =
-        kept-change a (record a { ram = memory; frames = n }) k open_yet (top-machine what memory n regs ms c same_regs same_marks nest) k.still (none_begun a.in_hand a.kernel.state (none-held a f below k top))
-        (vectors-top a f (record f { registers = regs; used = f.used + 1; marks = ms }) below n top refl (top-written a f below n regs (f.used + 1) ms top nest) k.vectors)
+    pub top-kept : (what : What) (memory : List ℕ) (n : Nest) (ms : List ℕ) → change (machine_of a) ≡ record { what = what; machine = record (machine_of a) { memory = memory; frames = ran f e.registers marks ∷ below } } → ms ≡ marks
+        → n ≡ record { frames = ran f e.registers ms ∷ below; waiting = a.frames.waiting } → a.t < most_task_steps → IsKept (record a { ram = memory; frames = n })
+    top-kept what memory n ms c same_marks nest open_yet =
+        kept-change a (record a { ram = memory; frames = n }) k open_yet (top-machine what memory n ms c same_marks nest) k.still (none_begun a.in_hand a.kernel.state (none-held a f below k top))
+        (vectors-top a f (ran f e.registers ms) below n top refl nest k.vectors)
 
     -- the top frame has called
     abbrev pub called : Registers → ℕ → FrameCall

@@ -8,4 +8,5 @@ pub mod MachineFacts
 pub mod StartFacts
 pub mod QuietExec
 pub mod ComingLaws
+pub mod TopLaws
 pub mod FrameFacts

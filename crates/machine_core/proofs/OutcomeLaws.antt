@@ -8,18 +8,19 @@ use Rattle.kern_base.specs.declared.requests.Request.{Request}
 use Rattle.kern_base.specs.declared.errors.OsErr.{OsErr}
 use Rattle.kern_base.specs.declared.errors.OsErr.TheVariants.{SemOverflow, SchedLocked, CallUnknown}
 use Rattle.kern_base.specs.declared.outcomes.Waiting.TheVariants.{Obj}
+use Rattle.kern_model.specs.Call.{Call, call_of}
 use Rattle.kern_model.specs.State.{Kernel, Content, Count, Messages, Bits, Held, Timed, list_at, object_at, with_content}
-use Rattle.kern_model.specs.Effect.{Effect, refused, done, fine, tail, blocks_on, waits_for}
+use Rattle.kern_model.specs.Effect.{Effect, refused, done, fine, waits_unless, blocks_on, waits_for}
 use Rattle.kern_model.specs.Checks.{argument, call_error}
 use Rattle.kern_model.specs.Semaphores.{sem_post_to, sem_post, sem_pend}
-use Rattle.kern_model.specs.Services.{effect, program_serves, after_checks, row_of}
+use Rattle.kern_model.specs.Services.{effect, program_serves, after_checks, perform}
 use Rattle.machine_core.specs.AnswerView.{HasNoTable}
 use Rattle.machine_model.proofs.CountLaws.{choice}
 
 abbrev Plain : Effect → Type 0
 Plain e = HasNoTable e.outcome
 
-plain-tail : (k : Kernel) (b : Bool) (e : Effect) → Plain e → Plain (tail k b e)
+plain-tail : (k : Kernel) (b : Bool) (e : Effect) → Plain e → Plain (waits_unless k b e)
 plain-tail k true e p = refl
 plain-tail k false e p = choice Plain (k.lock == 0) e (refused k SchedLocked) p refl
 
@@ -42,18 +43,18 @@ plain-sem_pend (Bits bits) r x k = refl
 plain-sem_pend (Held owner nesting) r x k = refl
 plain-sem_pend (Timed t) r x k = refl
 
-plain-row_of : (s : Service) (r : Request) (x c h : ℕ) (k : Kernel) → program_serves s ≡ true → Plain (row_of s r x c h k)
-plain-row_of SemPost r x c h k e = plain-sem_post (object_at k (argument r 0)).content r h k
-plain-row_of SemPend r x c h k e = plain-sem_pend (object_at k (argument r 0)).content r x k
-plain-row_of _ r x c h k e = absurd (false≢true e)
+plain-perform : (s : Service) (call : Call) (k : Kernel) → program_serves s ≡ true → Plain (perform s call k)
+plain-perform SemPost call k e = plain-sem_post (object_at k (argument call.request 0)).content call.request call.compared k
+plain-perform SemPend call k e = plain-sem_pend (object_at k (argument call.request 0)).content call.request call.caller k
+plain-perform _ call k e = absurd (false≢true e)
 
-plain-checked : (o : Option OsErr) (r : Request) (x c h : ℕ) (k : Kernel) → program_serves r.service ≡ true → Plain (after_checks o r x c h k)
-plain-checked (Some err) r x c h k e = refl
-plain-checked None r x c h k e = plain-row_of r.service r x c h k e
+plain-checked : (o : Option OsErr) (call : Call) (k : Kernel) → program_serves call.request.service ≡ true → Plain (after_checks o call k)
+plain-checked (Some err) call k e = refl
+plain-checked None call k e = plain-perform call.request.service call k e
 
-plain-served : (b : Bool) (r : Request) (x c h : ℕ) (k : Kernel) → program_serves r.service ≡ b → Plain (if b then after_checks (call_error r x k) r x c h k else refused k CallUnknown)
-plain-served true r x c h k e = plain-checked (call_error r x k) r x c h k e
-plain-served false r x c h k e = refl
+plain-served : (b : Bool) (call : Call) (k : Kernel) → program_serves call.request.service ≡ b → Plain (if b then after_checks (call_error call.request call.caller k) call k else refused k CallUnknown)
+plain-served true call k e = plain-checked (call_error call.request call.caller k) call k e
+plain-served false call k e = refl
 
-pub plain-effect : (r : Request) (x c h : ℕ) (k : Kernel) → HasNoTable (effect program_serves r x c h k).outcome
-plain-effect r x c h k = plain-served (program_serves r.service) r x c h k refl
+pub plain-effect : (call : Call) (k : Kernel) → HasNoTable (effect program_serves call k).outcome
+plain-effect call k = plain-served (program_serves call.request.service) call k refl

@@ -9,23 +9,22 @@ use Rattle.kern_base.specs.declared.outcomes.UnitEnd.{UnitEnd}
 use Rattle.kern_base.specs.declared.outcomes.UnitEnd.TheVariants as unit
 use Rattle.kern_base.specs.declared.outcomes.Outcome.{Outcome}
 use Rattle.kern_base.specs.declared.outcomes.Outcome.TheVariants.{Answered, Waits, Gone, Quiet as QuietOutcome}
-use Rattle.kern_base.specs.Checks.{is_post}
-use Rattle.kern_base.specs.Services.{service_of}
+use Rattle.kern_base.specs.Services.{is_post, service_of, interrupt_error}
 use Rattle.kern_model.specs.State.{Kernel, task_at, idle_task}
 use Rattle.kern_model.specs.Services.{cost}
 use Rattle.rv32_exec.specs.Registers.{Registers, read}
 use Rattle.rv32_exec.specs.Exec.{Execution, exec}
 use Rattle.rv32_exec.specs.declared.Stepped.{Stepped}
 use Rattle.rv32_exec.specs.declared.Stepped.TheVariants.{Next, Call, Trap, Stored}
-use Rattle.tcb_pool.specs.declared.tables.TheConstants.{LEAVE}
+use Rattle.kern_base.specs.Numbers.{leave}
 use Rattle.inject_list.specs.declared.lists.Look.{Look}
-use Rattle.isr_nesting.specs.Frames.{FrameRecord}
-use Rattle.isr_nesting.specs.Marks.{marks_after, next_instruction}
+use Rattle.machine_model.specs.Frames.{FrameRecord}
+use Rattle.machine_model.specs.Marks.{marks_after, next_instruction}
 use Rattle.machine_model.specs.declared.events.How.TheVariants as how
 use Rattle.machine_model.specs.declared.events.What.TheVariants.{Quiet}
 use Rattle.machine_model.specs.Machine.{Machine, Work, CallOf, UnitOf, TakeOf, WholeStep, registers_at, effect_of}
 use Rattle.machine_model.specs.Answers.{Change}
-use Rattle.machine_model.specs.Interrupts.{leaves, frame_goes_on, frame_calls, frame_posts, frame_refused, frame_did, interrupt_error, argument_words, ran}
+use Rattle.machine_model.specs.Interrupts.{leaves, frame_goes_on, frame_calls, frame_posts, frame_refused, frame_did, argument_words, ran}
 use Rattle.machine_model.specs.Steps.{call_ends, unit_ends, unit_line, ends, advances}
 use Rattle.machine_model.specs.Acts.{acts, instructs, idles, starts_unit, works_in_units}
 use Rattle.machine_model.specs.Looks.{looks, look_at}
@@ -42,7 +41,7 @@ Printable c = IsPrintable c.what
 
 module _ (served : Service → Bool) (method : Method) where
   printable-frame_goes_on : (f : FrameRecord) (below : List FrameRecord) (regs : Registers) (marks : List ℕ) (m : Machine) → Printable (frame_goes_on served method f below regs marks m)
-  printable-frame_goes_on f below regs marks m = choice Printable (regs.pc == LEAVE) (leaves how.Ret f below m) (record { what = Quiet; machine = record m { frames = ran f regs marks ∷ below } }) tt tt
+  printable-frame_goes_on f below regs marks m = choice Printable (regs.pc == leave) (leaves how.Ret f below m) (record { what = Quiet; machine = record m { frames = ran f regs marks ∷ below } }) tt tt
 
   printable-frame_calls : (s : Service) (args : List ℕ) (f : FrameRecord) (below : List FrameRecord) (regs : Registers) (m : Machine) → Printable (frame_calls served method s args f below regs m)
   printable-frame_calls s args f below regs m =

@@ -12,7 +12,7 @@ use Rattle.rv32_exec.specs.Exec.{Execution, Outcome, keeps, traps, goes_on, comp
 use Rattle.rv32_exec.specs.declared.Stepped.{Stepped}
 use Rattle.rv32_exec.specs.declared.Stepped.TheVariants.{Next, Stored}
 use Rattle.rv32_exec.specs.declared.TrapKind.TheVariants.{Jump, Load, Store}
-use Rattle.kern_model.proofs.LeadLaws.{choice}
+use Rattle.kern_model.proofs.Lemmas.{choice}
 
 -- where it has not stored, the memory is the same
 abbrev pub KeepsIf : Stepped → List ℕ → List ℕ → Type 0

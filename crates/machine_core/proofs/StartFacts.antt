@@ -7,18 +7,17 @@ use Rattle.std.proofs.lemmas.Bool.{false≢true}
 use Rattle.kern_base.specs.declared.kinds.Method.TheVariants.{Direct}
 use Rattle.kern_model.specs.State.{pick}
 use Rattle.kern_model.specs.Services.{program_serves}
-use Rattle.kern_model.proofs.LeadLaws.{choice}
-use Rattle.kern_model.proofs.Tests.{equal, or_either}
+use Rattle.kern_model.proofs.Lemmas.{choice, equal, or_either}
 use Rattle.app_image.specs.Image.{ImageRecord, IsValidImage, IsValidVector}
 use Rattle.app_image.specs.declared.records.VectorDef.{VectorDef}
 use Rattle.app_image.specs.Layout.{HasWords}
 use Rattle.inject_list.specs.Lists.{ListRecord, IsValidList, IsInjection, is_declared, most_entries}
 use Rattle.inject_list.specs.declared.lists.Injection.{Injection}
-use Rattle.isr_nesting.specs.Frames.{Interrupt, FrameRecord, interrupt_of, interrupts_of}
+use Rattle.machine_model.specs.Frames.{Interrupt, FrameRecord, interrupt_of, interrupts_of}
 use Rattle.isr_nesting.specs.Nest.{Nest, interrupts, unnumbered, numbered}
 use Rattle.machine_model.specs.Machine.{Machine, start}
 use Rattle.machine_model.specs.Bound.{events_left, interrupt_events}
-use Rattle.kernel_calls.specs.Start.{start_of}
+use Rattle.kernel_calls.specs.KernelRecord.{start_of}
 use Rattle.rv32_exec.specs.Memory.{filled}
 use Rattle.machine_laws.specs.Valid.{IsValidMachine}
 use Rattle.machine_laws.proofs.NextValid.{valid-start_machine}
@@ -97,7 +96,7 @@ kept-loaded image list a h words l e =
 
 -- it is loaded part by part
 module _ (image : ImageRecord) (list : ListRecord) (a : Inside) (kernel : a.kernel ≡ start_of image) (ram : a.ram ≡ filled image.ram) (current : a.current.0 ≡ pick a.kernel.state) (frames : a.frames ≡ record { frames = []; waiting = numbered 0 (interrupts_of image list) })
-    (none : hand_of a.in_hand ≡ None) (code : a.code.items ≡ image.code) (config : a.config ≡ image.config) (no_look : list.looks ≡ []) (begun : a.begun ≡ false) (s : a.s ≡ 0) (t : a.t ≡ 0) where
+    (none : hand_of a.in_hand ≡ None) (code : a.program ≡ image.code) (config : a.config ≡ image.config) (no_look : list.looks ≡ []) (begun : a.begun ≡ false) (s : a.s ≡ 0) (t : a.t ≡ 0) where
   pub loaded : machine_of a ≡ start image list
   loaded =
       let is : interrupts a.frames ≡ interrupts_of image list = interrupts-new (interrupts_of image list) a.frames frames in

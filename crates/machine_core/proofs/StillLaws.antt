@@ -9,11 +9,12 @@ use Rattle.kern_base.specs.declared.errors.OsErr.{OsErr}
 use Rattle.kern_base.specs.declared.errors.OsErr.TheVariants.{SemOverflow, SchedLocked, CallUnknown}
 use Rattle.kern_base.specs.declared.outcomes.Waiting.TheVariants.{Obj}
 use Rattle.kern_base.specs.declared.outcomes.Finished.{Finished}
+use Rattle.kern_model.specs.Call.{Call, call_of}
 use Rattle.kern_model.specs.State.{Kernel, Task, Content, Count, Messages, Bits, Held, Timed, list_at, task_at, object_at, with_content}
-use Rattle.kern_model.specs.Effect.{Effect, refused, done, fine, wakes, wakes_all, posted_result, chosen, tail, blocks_on, waits_for}
+use Rattle.kern_model.specs.Effect.{Effect, refused, done, fine, wakes, wakes_all, posted_result, chosen, waits_unless, blocks_on, waits_for}
 use Rattle.kern_model.specs.Checks.{argument, call_error}
 use Rattle.kern_model.specs.Semaphores.{sem_post_to, sem_post, sem_pend}
-use Rattle.kern_model.specs.Services.{effect, program_serves, after_checks, row_of}
+use Rattle.kern_model.specs.Services.{effect, program_serves, after_checks, perform}
 use Rattle.kern_model.specs.Finish.{finished, finished_with}
 use Rattle.kern_model.specs.Stop.{stopped}
 use Rattle.machine_model.proofs.CountLaws.{choice}
@@ -42,7 +43,7 @@ keeps-wakes_all f h (x ∷ xs) k j s =
 keeps-content : (k : Kernel) (o : ℕ) (c : Content) → SameBehind k (with_content k o c)
 keeps-content k o c = record { tick_signals = refl; timer_signals = refl; processing = refl; in_callback = refl; lock = refl }
 
-keeps-tail : (k : Kernel) (b : Bool) (e : Effect) → Keeps k e → Keeps k (tail k b e)
+keeps-tail : (k : Kernel) (b : Bool) (e : Effect) → Keeps k e → Keeps k (waits_unless k b e)
 keeps-tail k true e s = same k
 keeps-tail k false e s = choice (Keeps k) (k.lock == 0) e (refused k SchedLocked) s (same k)
 
@@ -69,22 +70,22 @@ keeps-sem_pend (Bits bits) r x k = same k
 keeps-sem_pend (Held owner nesting) r x k = same k
 keeps-sem_pend (Timed t) r x k = same k
 
-keeps-row_of : (s : Service) (r : Request) (x c h : ℕ) (k : Kernel) → program_serves s ≡ true → Keeps k (row_of s r x c h k)
-keeps-row_of SemPost r x c h k e = keeps-sem_post (object_at k (argument r 0)).content r h k
-keeps-row_of SemPend r x c h k e = keeps-sem_pend (object_at k (argument r 0)).content r x k
-keeps-row_of _ r x c h k e = absurd (false≢true e)
+keeps-perform : (s : Service) (call : Call) (k : Kernel) → program_serves s ≡ true → Keeps k (perform s call k)
+keeps-perform SemPost call k e = keeps-sem_post (object_at k (argument call.request 0)).content call.request call.compared k
+keeps-perform SemPend call k e = keeps-sem_pend (object_at k (argument call.request 0)).content call.request call.caller k
+keeps-perform _ call k e = absurd (false≢true e)
 
-keeps-checked : (o : Option OsErr) (r : Request) (x c h : ℕ) (k : Kernel) → program_serves r.service ≡ true → Keeps k (after_checks o r x c h k)
-keeps-checked (Some err) r x c h k e = same k
-keeps-checked None r x c h k e = keeps-row_of r.service r x c h k e
+keeps-checked : (o : Option OsErr) (call : Call) (k : Kernel) → program_serves call.request.service ≡ true → Keeps k (after_checks o call k)
+keeps-checked (Some err) call k e = same k
+keeps-checked None call k e = keeps-perform call.request.service call k e
 
-keeps-served : (b : Bool) (r : Request) (x c h : ℕ) (k : Kernel) → program_serves r.service ≡ b → Keeps k (if b then after_checks (call_error r x k) r x c h k else refused k CallUnknown)
-keeps-served true r x c h k e = keeps-checked (call_error r x k) r x c h k e
-keeps-served false r x c h k e = same k
+keeps-served : (b : Bool) (call : Call) (k : Kernel) → program_serves call.request.service ≡ b → Keeps k (if b then after_checks (call_error call.request call.caller k) call k else refused k CallUnknown)
+keeps-served true call k e = keeps-checked (call_error call.request call.caller k) call k e
+keeps-served false call k e = same k
 
 -- no service that is served changes them
-same_behind-effect : (r : Request) (x c h : ℕ) (k : Kernel) → SameBehind k (effect program_serves r x c h k).kernel
-same_behind-effect r x c h k = keeps-served (program_serves r.service) r x c h k refl
+same_behind-effect : (call : Call) (k : Kernel) → SameBehind k (effect program_serves call k).kernel
+same_behind-effect call k = keeps-served (program_serves call.request.service) call k refl
 
 -- nor does a task that reads its result
 same_behind-finished_with : (o : Option Finished) (x : ℕ) (k : Kernel) → SameBehind k (finished_with o x k)
@@ -105,8 +106,8 @@ still-same k j h s =
       lock = h.lock ∙ s.lock;
     }
 
-pub still-effect : (r : Request) (x c h : ℕ) (k : Kernel) → IsStill k → IsStill (effect program_serves r x c h k).kernel
-still-effect r x c h k s = still-same k (effect program_serves r x c h k).kernel (same_behind-effect r x c h k) s
+pub still-effect : (call : Call) (k : Kernel) → IsStill k → IsStill (effect program_serves call k).kernel
+still-effect call k s = still-same k (effect program_serves call k).kernel (same_behind-effect call k) s
 
 pub still-finished : (x : ℕ) (k : Kernel) → IsStill k → IsStill (finished x k)
 still-finished x k s = still-same k (finished x k) (same_behind-finished x k) s

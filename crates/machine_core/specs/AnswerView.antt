@@ -7,7 +7,7 @@ use Rattle.kern_base.specs.declared.outcomes.Outcome.{Outcome}
 use Rattle.kern_base.specs.declared.outcomes.Outcome.TheVariants.{Answered, Waits, Gone}
 use Rattle.kern_model.specs.State.{task_at}
 use Rattle.kern_model.specs.Finish.{finished}
-use Rattle.tcb_pool.specs.TaskView.{no_registers}
+use Rattle.rv32_exec.specs.Registers.{no_registers}
 use Rattle.kernel_calls.specs.KernelRecord.{KernelRecord, with_state}
 use Rattle.machine_model.specs.declared.events.What.{What}
 use Rattle.machine_model.specs.declared.events.What.TheVariants.{Quiet, Wait, Gone as GoneLine}

@@ -4,7 +4,6 @@ use Rattle.kern_base.specs.declared.kinds.Method.TheVariants.{Direct}
 use Rattle.kern_model.specs.State.{Kernel}
 use Rattle.kern_model.specs.Services.{program_serves}
 use Rattle.kernel_calls.specs.Works.{WorkRecord, IsBegun}
-use Rattle.machine_core.specs.declared.machine.InHand.{InHand}
 use Rattle.machine_core.specs.declared.machine.Machine.TheInside.{Inside}
 use Rattle.machine_model.specs.Machine.{Machine, WholeStep, CallOf}
 use Rattle.isr_nesting.specs.Nest.{Nest, interrupts}
@@ -13,13 +12,13 @@ use Rattle.machine_laws.specs.Valid.{IsValidMachine}
 use Rattle.machine_core.specs.Valid.{most_task_steps, most_events, IsStill}
 
 -- the whole step of a work: a call
-abbrev pub step_of : InHand → WholeStep
-step_of h = record { work = CallOf h.work.caller h.work.request h.work.compared; done = h.work.done }
+abbrev pub step_of : WorkRecord → WholeStep
+step_of w = record { work = CallOf w.caller w.request w.compared; done = w.done }
 
 -- of what is in hand, if anything is
-abbrev pub hand_of : Option InHand → Option WholeStep
+abbrev pub hand_of : Option WorkRecord → Option WholeStep
 hand_of None = None
-hand_of (Some h) = Some (step_of h)
+hand_of (Some w) = Some (step_of w)
 
 -- the machine that the fields are: posts are performed at once, so that none waits, and no look is to come
 abbrev pub machine_of : Inside → Machine
@@ -37,7 +36,7 @@ machine_of a =
       begun = a.begun;
       s = a.s;
       t = a.t;
-      code = a.code.items;
+      code = a.program;
       config = a.config;
     }
 
@@ -47,9 +46,9 @@ pub record IsBegunHere (w : WorkRecord) (k : Kernel) : Type 0 where
   pub head : w.head ≡ w.compared
 
 -- of what is in hand, if anything is
-abbrev pub IsBegunOn : Option InHand → Kernel → Type 0
+abbrev pub IsBegunOn : Option WorkRecord → Kernel → Type 0
 IsBegunOn None k = Unit {0}
-IsBegunOn (Some h) k = IsBegunHere h.work k
+IsBegunOn (Some w) k = IsBegunHere w k
 
 -- the vectors of the frames and of the interrupts that have not entered are those that an image may declare
 pub record HasVectors (n : Nest) : Type 0 where

@@ -5,8 +5,7 @@ ghost use Rattle.kern_model.specs.State.{task_at};
 ghost use Rattle.kern_model.specs.Valid.{has_result};
 ghost use Rattle.kern_model.specs.Finish.{finished};
 ghost use Rattle.kern_model.specs.Services.{program_serves};
-ghost use Rattle.tcb_pool.specs.TaskView.{no_registers};
-ghost use Rattle.rv32_exec.specs.Registers.{read};
+ghost use Rattle.rv32_exec.specs.Registers.{no_registers, read};
 ghost use Rattle.machine_model.specs.Answers.{with_answer, with_table, returned, size_of, size_or_zero};
 ghost use Rattle.machine_model.specs.Acts.{request_of, called};
 ghost use Rattle.machine_core.specs.AnswerView.{answered_kernel, finished_kernel, finished_line};
@@ -38,19 +37,19 @@ pub(crate) fn request_in(regs: &Regs) -> Request
     }
 }
 
-// The event of a call, with the arguments of its service.
-pub(crate) fn call_line(task: TaskId, request: &Request) -> What
-    ensures { result ≡ called task.0 request.now }
+// Writes the event of a call, with the arguments of its service.
+pub(crate) fn call_line(task: TaskId, request: &Request, line: &mut What)
+    ensures { line.new ≡ called task.0 request.now }
 {
     let n_args = request.service.args();
     let mut args = [0; 4];
     args[..n_args].copy_from_slice(&request.args[..n_args]);
-    What::Call {
+    *line = What::Call {
         task,
         service: request.service,
         args,
         n_args: n_args as u8,
-    }
+    };
 }
 
 // The size of a message, of the calls that take one message.
@@ -63,11 +62,17 @@ fn size_in(service: Service, answer: Answer) -> Option<u32>
     }
 }
 
-// Writes the answer of a call into the registers of its task.
-pub(crate) fn answer(kernel: &mut Kernel, task: TaskId, service: Service, answer: Answer) -> What
+// Writes the answer of a call into the registers of its task, and its event.
+pub(crate) fn answer(
+    kernel: &mut Kernel,
+    task: TaskId,
+    service: Service,
+    answer: Answer,
+    line: &mut What,
+)
     requires { task.0 < 64 }
     ensures kernel { kernel.new ≡ answered_kernel kernel.old task.0 service answer }
-    ensures line { result ≡ returned task.0 service answer [] }
+    ensures line { line.new ≡ returned task.0 service answer [] }
 {
     let mut regs = kernel.tcb(task).regs;
     regs.set(A0, answer.err.number());
@@ -77,7 +82,7 @@ pub(crate) fn answer(kernel: &mut Kernel, task: TaskId, service: Service, answer
         regs.set(A0 + 2, size);
     }
     kernel.set_regs(task, regs);
-    What::Ret {
+    *line = What::Ret {
         task,
         service,
         err: answer.err,
@@ -85,17 +90,17 @@ pub(crate) fn answer(kernel: &mut Kernel, task: TaskId, service: Service, answer
         size: size.unwrap_or(0),
         tab: [None; 8],
         n_tab: 0,
-    }
+    };
 }
 
 // A task reads the result that waits for it.
-pub(crate) fn finish(kernel: &mut Kernel, task: TaskId) -> What
+pub(crate) fn finish(kernel: &mut Kernel, task: TaskId, line: &mut What)
     requires inside { task.0 < 64 }
     requires waits { has_result (task_at kernel.old.state task.0).answered ≡ true }
     ensures kernel { kernel.new ≡ finished_kernel kernel.old task.0 }
-    ensures line { result ≡ finished_line kernel.old task.0 }
+    ensures line { line.new ≡ finished_line kernel.old task.0 }
     ensures no_table { (memory : List ℕ) → with_table (task_at kernel.old.state task.0).answered memory ≡ memory }
 {
     let finished = kernel.finish(task);
-    answer(kernel, task, finished.service, finished.answer)
+    answer(kernel, task, finished.service, finished.answer, line);
 }

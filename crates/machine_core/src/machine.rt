@@ -11,24 +11,16 @@ ghost use Rattle.machine_model.specs.Text.{IsPrintable};
 ghost use Rattle.machine_laws.specs.Valid.{IsValidMachine};
 ghost use Rattle.machine_core.specs.Valid.{most_task_steps, change};
 
-use crate::interrupts::{enter, leave, reads_result};
+use crate::interrupts::{enter, leave};
 use crate::{Event, How, What};
 use app_image::{Config, Image};
 use inject_list::InjectList;
 use isr_nesting::Frames;
-use kern_base::{NoMemory, Service, TaskId};
+use kern_base::{NoMemory, TaskId};
 use kernel_calls::{Kernel, Work};
-use rv32_exec::Ram;
+use rv32_exec::{Program, Ram};
 use std::alloc::Global;
 use std::marker::Model;
-
-// A whole step in hand, and the service that it calls.
-#[derive(Drop)]
-pub(crate) struct InHand {
-    pub(crate) work: Work,
-    pub(crate) service: Service,
-    ghost same: { service ≡ work.request.service },
-}
 
 /// The machine that runs an application and its recorded interrupts: its tasks' registers, the kernel,
 /// the memory, the frames of interrupt code and the counts of steps. All its memory is taken by `load`.
@@ -36,11 +28,11 @@ pub(crate) struct InHand {
 pub struct Machine {
     pub(crate) kernel: Kernel,
     pub(crate) ram: Ram,
-    pub(crate) code: Vec<u32>,
+    pub(crate) program: Program,
     pub(crate) config: Config,
     pub(crate) current: TaskId,
     pub(crate) frames: Frames,
-    pub(crate) in_hand: Option<InHand>,
+    pub(crate) in_hand: Option<Work>,
     pub(crate) begun: bool,
     pub(crate) s: u64,
     pub(crate) t: u32,
@@ -71,15 +63,14 @@ impl Machine {
         let Ok(ram) = Ram::new(alloc, image.ram()) else {
             return Err(NoMemory);
         };
-        let mut code = Vec::new(alloc);
-        if code.extend_from_slice(image.code()).is_err() {
+        let Ok(program) = Program::new(alloc, image.code()) else {
             return Err(NoMemory);
-        }
+        };
         let current = kernel.pick();
         Ok(Machine {
             kernel,
             ram,
-            code,
+            program,
             config: image.config(),
             current,
             frames,
@@ -100,22 +91,41 @@ impl Machine {
         // Fewer events are left to any later number of task steps.
         ensures fewer { (n : ℕ) → self.old.t < n → events_left n self.new < events_left n self.old }
     {
-        let s = self.s;
-        let t = self.t;
+        let mut event = Event {
+            s: 0,
+            t: 0,
+            what: What::Quiet,
+            switch: None,
+            marked: false,
+        };
+        self.step_into(&mut event);
+        event
+    }
+
+    /// The next event, written over an older one, whatever that was. It takes no memory.
+    pub fn step_into(&mut self, event: &mut Event)
+        requires { self.old.t < most_task_steps }
+        ensures event { event.new ≡ (next program_serves Direct self.old).0 }
+        ensures printable { IsPrintable event.new.what }
+        ensures machine { self.new ≡ (next program_serves Direct self.old).1 }
+
+        // Fewer events are left to any later number of task steps.
+        ensures fewer { (n : ℕ) → self.old.t < n → events_left n self.new < events_left n self.old }
+    {
         let before = self.current;
-        let (what, marked) = if self.begun {
-            self.go_on()
+        event.s = self.s;
+        event.t = self.t;
+        event.marked = false;
+        if !matches!(event.what, What::Quiet) {
+            event.what = What::Quiet;
+        }
+        if self.begun {
+            event.marked = self.go_on(&mut event.what);
         } else {
             self.begun = true;
-            (What::Start { task: before }, false)
-        };
-        Event {
-            s,
-            t,
-            what,
-            switch: switch_of(before, self.current),
-            marked,
+            event.what = What::Start { task: before };
         }
+        event.switch = switch_of(before, self.current);
     }
 
     /// The task steps so far.
@@ -142,48 +152,52 @@ impl Machine {
 
     // What happens after the first event, and whether interrupt code reads a register with a mark: an
     // interrupt that is due enters, which takes no raw step, or else what is there goes on.
-    fn go_on(&mut self) -> (What, bool)
+    fn go_on(&mut self, line: &mut What) -> bool
         requires begun { self.old.begun ≡ true }
         requires open_yet { self.old.t < most_task_steps }
-        ensures line { result.0 ≡ (change self.old).what }
-        ensures marked { result.1 ≡ marks program_serves (rule Direct self.old) self.old }
+        requires blank { line.old ≡ What.Quiet }
+        ensures line { line.new ≡ (change self.old).what }
+        ensures marked { result ≡ marks program_serves (rule Direct self.old) self.old }
         ensures machine { self.new ≡ (next program_serves Direct self.old).1 }
     {
         let free = self.in_hand.is_none();
         match self.frames.due(!free, free, self.s, self.t) {
             Some(number) => {
                 let locked = self.kernel.lock() > 0;
-                (enter(&mut self.frames, number, locked), false)
+                enter(&mut self.frames, number, locked, line);
+                false
             }
-            None => self.proceed(),
+            None => self.proceed(line),
         }
     }
 
     // No interrupt is due: the top frame leaves at its limit, which takes no raw step, or it runs one
     // instruction; where no frame stands, tasks work.
-    fn proceed(&mut self) -> (What, bool)
+    fn proceed(&mut self, line: &mut What) -> bool
         requires rule { rule Direct self.old ≡ rule_of_frames self.old.frames self.old }
         requires open_yet { self.old.t < most_task_steps }
-        ensures line { result.0 ≡ (change self.old).what }
-        ensures marked { result.1 ≡ marks program_serves (rule Direct self.old) self.old }
+        requires blank { line.old ≡ What.Quiet }
+        ensures line { line.new ≡ (change self.old).what }
+        ensures marked { result ≡ marks program_serves (rule Direct self.old) self.old }
         ensures machine { self.new ≡ (next program_serves Direct self.old).1 }
     {
         let Some(frame) = self.frames.top() else {
-            return (self.work(), false);
+            self.work(line);
+            return false;
         };
-        let frame = *frame;
+        let vector = frame.vector;
         if frame.used >= self.config.isr_limit {
             self.current = leave(&mut self.frames, &self.kernel, self.current);
-            let line = What::Exit {
-                vector: frame.vector,
+            *line = What::Exit {
+                vector,
                 how: How::Limit,
             };
-            return (line, false);
+            return false;
         }
-        let marked = reads_result(&self.frames, self.code.as_slice(), &frame);
-        let what = self.run_frame(frame);
+        let (marked, marks) = self.frames.marks_ahead(&self.program);
+        self.run_frame(vector, marks, line);
         self.s += 1;
-        (what, marked)
+        marked
     }
 }
 

@@ -12,122 +12,112 @@ ghost use Rattle.machine_core.specs.AnswerView.{ended_kernel, ended_line, HasNoT
 ghost use Rattle.machine_core.specs.Valid.{most_task_steps, change};
 
 use crate::answers::{answer, call_line, finish, request_in};
-use crate::machine::InHand;
 use crate::{Machine, What};
 use kern_base::{Outcome, Service, TaskId};
 use kernel_calls::{Kernel, Progress};
-use rv32_exec::{Stepped, step};
+use rv32_exec::Stepped;
 
 const IDLE: u8 = 62;
 
 impl Machine {
     // No frame stands: a micro-step of the whole step in hand, or else the current task acts. It takes one
     // raw step.
-    pub(crate) fn work(&mut self) -> What
+    pub(crate) fn work(&mut self, line: &mut What)
         requires rule { rule Direct self.old ≡ rule_in_hand self.old.in_hand self.old }
         requires open_yet { self.old.t < most_task_steps }
-        ensures line { result ≡ (change self.old).what }
+        requires blank { line.old ≡ What.Quiet }
+        ensures line { line.new ≡ (change self.old).what }
         ensures machine { self.new ≡ (next program_serves Direct self.old).1 }
     {
-        let what = if self.in_hand.is_some() {
-            self.advance()
+        if self.in_hand.is_some() {
+            self.advance(line);
         } else {
-            self.act()
-        };
+            self.act(line);
+        }
         self.s += 1;
-        what
     }
 
     // One micro-step of the whole step in hand.
-    fn advance(&mut self) -> What
+    fn advance(&mut self, line: &mut What)
         requires rule { rule Direct self.old ≡ rule_in_hand self.old.in_hand self.old }
         requires some { IsSome self.old.in_hand }
         requires open_yet { self.old.t < most_task_steps }
-        ensures line { result ≡ (change self.old).what }
+        requires blank { line.old ≡ What.Quiet }
+        ensures line { line.new ≡ (change self.old).what }
         ensures machine { self.new ≡ (change self.old).machine }
     {
-        let Some(mut hand) = self.in_hand.take() else {
-            return What::Quiet;
+        let Some(work) = &mut self.in_hand else {
+            return;
         };
-        let task = self.current;
-        match self.kernel.advance(&mut hand.work) {
-            Progress::More => {
-                self.in_hand = Some(hand);
-                What::Quiet
-            }
+        match self.kernel.advance(work) {
+            Progress::More => {}
             Progress::Done(outcome) => {
-                let line = end(&mut self.kernel, task, hand.service, outcome);
+                let service = work.service();
+                self.in_hand = None;
+                end(&mut self.kernel, self.current, service, outcome, line);
                 self.t += 1;
-                self.current = settle(&self.kernel, task);
-                line
+                self.current = settle(&self.kernel, self.current);
             }
         }
     }
 
     // The current task acts: it reads the result that waits for it, or runs one instruction; the idle
     // task does nothing.
-    fn act(&mut self) -> What
+    fn act(&mut self, line: &mut What)
         requires rule { rule Direct self.old ≡ TaskActs }
         requires open_yet { self.old.t < most_task_steps }
-        ensures line { result ≡ (change self.old).what }
+        requires blank { line.old ≡ What.Quiet }
+        ensures line { line.new ≡ (change self.old).what }
         ensures machine { self.new ≡ (change self.old).machine }
     {
         let task = self.current;
         if self.kernel.tcb(task).result.is_some() {
-            let line = finish(&mut self.kernel, task);
+            finish(&mut self.kernel, task, line);
             self.t += 1;
-            return line;
+            return;
         }
         if task.0 == IDLE {
             self.t += 1;
-            return What::Quiet;
+            return;
         }
-        self.instruct(task)
+        self.instruct(task, line);
     }
 
     // The current task, which is an application's, runs one instruction.
-    fn instruct(&mut self, task: TaskId) -> What
+    fn instruct(&mut self, task: TaskId, line: &mut What)
         requires rule { rule Direct self.old ≡ TaskActs }
         requires current { self.old.current ≡ task.0 }
         requires reads { (task_at self.old.kernel task.0).answered ≡ None }
         requires application { task.0 < 60 }
         requires ready { is_ready (task_at self.old.kernel task.0) ≡ true }
         requires open_yet { self.old.t < most_task_steps }
-        ensures line { result ≡ (acts program_serves task.0 None self.old).what }
+        requires blank { line.old ≡ What.Quiet }
+        ensures line { line.new ≡ (acts program_serves task.0 None self.old).what }
         ensures machine { self.new ≡ (acts program_serves task.0 None self.old).machine }
     {
-        let mut regs = self.kernel.tcb(task).regs;
-        match step(self.code.as_slice(), &mut regs, &mut self.ram) {
-            Stepped::Next => {
-                self.kernel.set_regs(task, regs);
-                self.t += 1;
-                What::Quiet
-            }
+        match self.kernel.run_task(task, &self.program, &mut self.ram) {
+            Stepped::Next => self.t += 1,
             Stepped::Stored { addr, width, value } => {
-                self.kernel.set_regs(task, regs);
                 self.t += 1;
-                What::St {
+                *line = What::St {
                     who: task.0,
                     addr,
                     width,
                     value,
-                }
+                };
             }
             Stepped::Call => {
-                self.kernel.set_regs(task, regs);
-                let request = request_in(&regs);
-                let prio = self.kernel.tcb(task).prio;
-                self.in_hand = Some(InHand {
-                    work: self.kernel.begin(task, request, prio, prio),
-                    service: request.service,
-                });
-                call_line(task, &request)
+                let tcb = self.kernel.tcb(task);
+                let prio = tcb.prio;
+                let request = request_in(&tcb.regs);
+                self.in_hand = Some(self.kernel.begin(task, request, prio, prio));
+                call_line(task, &request, line);
             }
             Stepped::Trap(kind, pc) => {
                 self.kernel.stop(task);
                 self.t += 1;
                 self.current = settle(&self.kernel, task);
-                What::Trap { task, kind, pc }
+                *line = What::Trap { task, kind, pc };
             }
         }
     }
@@ -145,16 +135,17 @@ pub(crate) fn settle(kernel: &Kernel, current: TaskId) -> TaskId
 }
 
 // The last micro-step of a call: its answer goes to the caller, or the caller waits.
-fn end(kernel: &mut Kernel, task: TaskId, service: Service, outcome: Outcome) -> What
+fn end(kernel: &mut Kernel, task: TaskId, service: Service, outcome: Outcome, line: &mut What)
     requires inside { task.0 < 64 }
     requires plain { HasNoTable outcome }
+    requires blank { line.old ≡ What.Quiet }
     ensures kernel { kernel.new ≡ ended_kernel kernel.old task.0 service outcome }
-    ensures line { result ≡ ended_line task.0 service outcome }
+    ensures line { line.new ≡ ended_line task.0 service outcome }
 {
     match outcome {
-        Outcome::Answered(given, _) => answer(kernel, task, service, given),
-        Outcome::Waits => What::Wait { task, service },
-        Outcome::Gone => What::Gone { task },
-        Outcome::Quiet(_) => What::Quiet,
+        Outcome::Answered(given, _) => answer(kernel, task, service, given, line),
+        Outcome::Waits => *line = What::Wait { task, service },
+        Outcome::Gone => *line = What::Gone { task },
+        Outcome::Quiet(_) => {}
     }
 }

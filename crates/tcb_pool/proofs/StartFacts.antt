@@ -3,12 +3,12 @@ use Rattle.std.proofs.Common.{◌≡◌, ◌-◌, ◌≤◌, List, [], ◌∷◌
 use Rattle.std.specs.Prelude.{replicate}
 use Rattle.kern_base.specs.declared.outcomes.Waiting.TheVariants.{No, Signal}
 use Rattle.kern_model.specs.State.{Task, no_task}
-use Rattle.rv32_exec.specs.Registers.{Registers}
+use Rattle.rv32_exec.specs.Registers.{Registers, no_registers}
 use Rattle.app_image.specs.Image.{ImageRecord}
 use Rattle.app_image.specs.declared.records.TaskDef.{TaskDef}
 use Rattle.app_image.specs.declared.settings.Config.{Config}
-use Rattle.tcb_pool.specs.TaskView.{no_registers}
-use Rattle.tcb_pool.specs.Start.{start_tasks, start_registers, living_task, application_task, entry_registers}
+use Rattle.kern_model.specs.Start.{start_tasks, living_task, application_task}
+use Rattle.machine_model.specs.Start.{start_registers, entry_registers}
 use Rattle.tcb_pool.proofs.PlaceFacts.{replicate-four}
 
 pub tasks-started : (i : ImageRecord) (c : Config) (ds : List TaskDef) (ts : List Task) (b x y z : Task) → ts ≡ map (application_task c.quanta) ds ++ replicate (60 - length ds) b ++ (x ∷ y ∷ z ∷ b ∷ []) → ds ≡ i.tasks → c ≡ i.config → b ≡ no_task → x ≡ living_task c.tick_prio c.quanta 0 Signal → y ≡ living_task c.tmr_prio c.quanta 0 Signal → z ≡ living_task 63 c.quanta 0 No → ts ≡ start_tasks i

@@ -1,4 +1,3 @@
 pub mod TaskTable
 pub mod TaskView
 pub mod TableView
-pub mod Start

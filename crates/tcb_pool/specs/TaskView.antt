@@ -1,7 +1,6 @@
 -- What the record of a task means.
-use Rattle.std.specs.Prelude.{[], take, replicate}
+use Rattle.std.specs.Prelude.{[], take}
 use Rattle.kern_model.specs.State.{Task}
-use Rattle.rv32_exec.specs.Registers.{Registers}
 use Rattle.tcb_pool.specs.declared.records.Tcb.{Tcb}
 
 -- the task of the kernel state; its queue has no messages yet
@@ -24,7 +23,3 @@ task_of t =
       full = t.full;
       answered = t.result;
     }
-
--- registers that are all 0
-abbrev pub no_registers : Registers
-no_registers = record { pc = 0; x = replicate 32 0 }

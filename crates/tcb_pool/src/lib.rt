@@ -7,4 +7,4 @@ mod tables;
 
 pub use kern_base::{Finished, Waiting};
 pub use records::Tcb;
-pub use tables::{LEAVE, Tcbs};
+pub use tables::Tcbs;

@@ -2,17 +2,17 @@
 
 ghost use Rattle.std.specs.Prelude.{◌≡◌, ◌<◌, ◌≤◌, ◌++◌, length, map, drop, All, slice_set, slice_index_or};
 ghost use Rattle.kern_model.specs.State.{no_task};
-ghost use Rattle.tcb_pool.specs.TaskView.{task_of, no_registers};
-ghost use Rattle.tcb_pool.specs.Start.{start_tasks, start_registers, living_task, application_task, entry_registers};
+ghost use Rattle.tcb_pool.specs.TaskView.{task_of};
+ghost use Rattle.rv32_exec.specs.Exec.{exec};
+ghost use Rattle.rv32_exec.specs.Registers.{no_registers};
+ghost use Rattle.kern_model.specs.Start.{start_tasks, living_task, application_task};
+ghost use Rattle.machine_model.specs.Start.{start_registers, entry_registers};
 
 use crate::Tcb;
 use app_image::{Image, TaskDef};
-use kern_base::{Prio, TaskId, Waiting};
-use rv32_exec::Regs;
+use kern_base::{LEAVE, Prio, TaskId, Waiting};
+use rv32_exec::{Program, Ram, Regs, Stepped};
 use std::marker::Model;
-
-/// The address to which a task, an interrupt routine or a callback returns.
-pub const LEAVE: u32 = 0xFFFF_FFF0;
 
 /// The 64 task records, by task number. Contracts see the tasks of the kernel state and their
 /// registers.
@@ -156,13 +156,23 @@ impl Tcbs {
         self.records[task.0 as usize] = tcb;
     }
 
+    /// Runs one instruction on the registers of a task, where they stand. A trap changes nothing.
+    #[inline(always)]
+    pub fn run(&mut self, task: TaskId, program: &Program, ram: &mut Ram) -> Stepped
+        requires { task.0 < 64 }
+        ensures registers { self.new ≡ record self.old { registers = slice_set self.old.registers task.0 (exec program.now (slice_index_or self.old.registers task.0 no_registers) ram.old).registers } }
+        ensures memory { ram.new ≡ (exec program.now (slice_index_or self.old.registers task.0 no_registers) ram.old).memory }
+        ensures did { result ≡ (exec program.now (slice_index_or self.old.registers task.0 no_registers) ram.old).did }
+    {
+        let tcb = &mut self.records[task.0 as usize];
+        program.step(&mut tcb.regs, ram)
+    }
+
     /// Writes the registers of a task, and changes nothing else.
     pub fn set_regs(&mut self, task: TaskId, regs: Regs)
         requires { task.0 < 64 }
         ensures { self.new ≡ record self.old { registers = slice_set self.old.registers task.0 regs } }
     {
-        let mut tcb = self.records[task.0 as usize];
-        tcb.regs = regs;
-        self.records[task.0 as usize] = tcb;
+        self.records[task.0 as usize].regs = regs;
     }
 }

@@ -1,5 +1,5 @@
 use Rattle.std.proofs.Common.{◌≡◌, drop}
-use Rattle.isr_nesting.specs.Frames.{interrupt_of}
+use Rattle.machine_model.specs.Frames.{interrupt_of}
 use Rattle.isr_nesting.proofs.records.record_of.Given as goal
 
 abbrev pub invariant-loop-vector : goal.invariant-loop-vector

@@ -1,5 +1,5 @@
 use Rattle.std.proofs.Common.{◌≡◌, ◌≤◌, map, take, All}
-use Rattle.isr_nesting.specs.Frames.{interrupt_of}
+use Rattle.machine_model.specs.Frames.{interrupt_of}
 use Rattle.isr_nesting.specs.RecordView.{interrupt_in}
 use Rattle.isr_nesting.proofs.records.records_of.Given as goal
 

@@ -1,7 +1,7 @@
 use Rattle.std.proofs.Common.{◌≡◌, map, take}
 use Rattle.std.specs.Prelude.{All}
 use Rattle.kern_model.specs.Valid.{IsContent}
-use Rattle.kernel_calls.specs.Start.{object_of}
+use Rattle.kern_model.specs.Start.{object_of}
 use Rattle.kernel_calls.specs.ObjectView.{objects_in}
 use Rattle.kernel_calls.proofs.starts.start_objects.Given as goal
 

@@ -1,6 +1,6 @@
 use Rattle.std.proofs.Common.{◌≡◌, ◌++◌, ◌-◌}
 use Rattle.kernel_calls.specs.ListView.{lists_in}
-use Rattle.kernel_calls.specs.Start.{ready_from}
+use Rattle.kern_model.specs.Start.{ready_from}
 use Rattle.kernel_calls.proofs.starts.start_ready.Given as goal
 
 abbrev pub invariant-loop-prio : goal.invariant-loop-prio

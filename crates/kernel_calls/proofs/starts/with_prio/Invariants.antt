@@ -1,5 +1,5 @@
 use Rattle.std.proofs.Common.{◌≡◌, ◌++◌, ◌≤◌, length, drop}
-use Rattle.kernel_calls.specs.Start.{tasks_of}
+use Rattle.kern_model.specs.Start.{tasks_of}
 use Rattle.kernel_calls.proofs.starts.with_prio.Given as goal
 
 abbrev pub invariant-loop-index : goal.invariant-loop-index

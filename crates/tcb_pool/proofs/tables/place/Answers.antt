@@ -1,7 +1,8 @@
 use Rattle.std.proofs.Common.{arith, ap, ◌∙◌}
 use Rattle.std.proofs.lemmas.List.{length-map}
 use Rattle.tcb_pool.specs.TaskView.{task_of}
-use Rattle.tcb_pool.specs.Start.{application_task, entry_registers}
+use Rattle.kern_model.specs.Start.{application_task}
+use Rattle.machine_model.specs.Start.{entry_registers}
 use Rattle.tcb_pool.specs.declared.records.Tcb.{Tcb}
 use Rattle.tcb_pool.proofs.PlaceFacts.{placed-next}
 use Rattle.tcb_pool.proofs.tables.place.Goals as goal

@@ -1,6 +1,7 @@
 use Rattle.std.proofs.Common.{◌≡◌, ◌++◌, map, take, drop}
 use Rattle.tcb_pool.specs.TaskView.{task_of}
-use Rattle.tcb_pool.specs.Start.{application_task, entry_registers}
+use Rattle.kern_model.specs.Start.{application_task}
+use Rattle.machine_model.specs.Start.{entry_registers}
 use Rattle.tcb_pool.proofs.tables.place.Given as goal
 
 abbrev pub invariant-loop-index : goal.invariant-loop-index

@@ -4,7 +4,7 @@ use Rattle.app_image.specs.declared.records.VectorDef.{VectorDef}
 use Rattle.inject_list.specs.Lists.{ListRecord}
 use Rattle.inject_list.specs.declared.lists.Injection.{Injection}
 use Rattle.isr_nesting.specs.declared.records.Recorded.{Recorded}
-use Rattle.isr_nesting.specs.Frames.{Interrupt, interrupt_of, interrupts_of}
+use Rattle.machine_model.specs.Frames.{Interrupt, interrupt_of, interrupts_of}
 use Rattle.isr_nesting.specs.Nest.{Nest, numbered}
 use Rattle.isr_nesting.specs.RecordView.{interrupt_in}
 use Rattle.isr_nesting.proofs.nests.Frames.new.Goals as goal

@@ -9,6 +9,7 @@ use Rattle.isr_nesting.specs.Kept.{HasPlaces, IsPassed}
 use Rattle.isr_nesting.specs.Order.{IsOrder, timed_at}
 use Rattle.isr_nesting.specs.RecordView.{record_at, no_record, has_entered, waiting_from, task_numbers}
 use Rattle.isr_nesting.proofs.LoadLaws.{none-entered, all-wait, moments_of, keys_of, places-loaded, moments-rise, passed-none}
+use Rattle.isr_nesting.proofs.TaskLaws.{kept-step, kept-task}
 use Rattle.isr_nesting.proofs.waits.Waiting.new.Goals as goal
 
 pub invariant_of-result : goal.invariant_of-result
@@ -41,6 +42,8 @@ invariant_of-result c =
       gone = λ j h. absurd (omega arith);
       tasks = tasks;
       passed = subst (λ ts. IsPassed es ts 0) (sym tasks) (passed-none rs es waits);
+      next_step = kept-step c.deref-8.result.now c.in_ok-moments.moments.items 0 c.step_at-next_step.result c.deref-8.ensures.value c.step_at-next_step.ensures;
+      next_task = kept-task c.deref-9.result.now rs c.deref-10.result.now c.in_ok-tasks.tasks.items 0 c.task_at-next_task.result c.deref-9.ensures.value c.deref-10.ensures.value c.task_at-next_task.ensures;
     }
 
 pub returns : goal.returns

@@ -2,7 +2,7 @@ use Rattle.std.proofs.Common.{◌≡◌, ℕ, ◌<◌, ap, sym, ◌∙◌, subst
 use Rattle.std.specs.Prelude.{slice_index}
 use Rattle.std.proofs.lemmas.List.{get_or_default}
 use Rattle.std.proofs.lemmas.List.Sorted.{IsPartitionPoint-from_clause, IsPartitionedBy-leb, IsNonDecreasingBy-from_default}
-use Rattle.kern_model.proofs.Tests.{above}
+use Rattle.kern_model.proofs.Lemmas.{above}
 use Rattle.std.specs.List.Sorted.{IsNonDecreasing}
 use Rattle.isr_nesting.specs.Keys.{step_key}
 use Rattle.isr_nesting.proofs.PlaceLaws.{least-best, none-come}

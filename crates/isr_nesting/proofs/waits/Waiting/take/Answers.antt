@@ -3,13 +3,14 @@ use Rattle.std.specs.Prelude.{slice_index, slice_set}
 use Rattle.std.proofs.lemmas.List.{get_or_default, length-set}
 use Rattle.inject_list.specs.declared.lists.Moment.TheVariants.{Step}
 use Rattle.isr_nesting.specs.declared.records.Recorded.{Recorded}
-use Rattle.isr_nesting.specs.Due.{is_step}
+use Rattle.machine_model.specs.Due.{is_step}
 use Rattle.isr_nesting.specs.Least.{nothing}
 use Rattle.isr_nesting.specs.Nest.{without_number}
 use Rattle.isr_nesting.specs.Kept.{HasPlaces, IsPassed}
 use Rattle.isr_nesting.specs.RecordView.{record_at, no_record, task_numbers}
 use Rattle.isr_nesting.proofs.WaitLaws.{waiting-here, waiting-taken}
 use Rattle.isr_nesting.proofs.PlaceLaws.{places-step, passed-step, task-number}
+use Rattle.isr_nesting.proofs.TaskLaws.{kept-step, kept-task}
 use Rattle.isr_nesting.proofs.waits.Waiting.take.Goals as goal
 
 pub index_mut-requires : goal.index_mut-requires
@@ -61,16 +62,18 @@ invariant_of-self c =
       tasks = k.tasks;
       passed = subst (λ ts. IsPassed (slice_set a.entered.items c.args.number true) ts a.next) (sym k.tasks)
           (passed-step a.recorded.items a.entered.items a.next c.args.number room (ap is_step step) (subst (λ ts. IsPassed a.entered.items ts a.next) k.tasks k.passed));
+      next_step = kept-step c.deref.result.now a.moments.items c.first_key-self-inside.result c.step_at-self-inside.result c.deref.ensures.value c.step_at-self-inside.ensures;
+      next_task = k.next_task;
     }
 
 pub first_waiting-self-inside-requires-clause-inside : goal.first_waiting-self-inside-requires-clause-inside
 first_waiting-self-inside-requires-clause-inside c = λ j d h.
     let a = c.self.inside in
     let k = c.self.invariant in
-    let tasks : c.deref.result.now ≡ task_numbers 0 a.recorded.items = c.deref.ensures.value ∙ k.tasks in
-    let size : length c.deref-in-Task.result.now ≡ length a.entered.items = ap length c.deref-in-Task.ensures.value ∙ length-set a.entered.items c.args.number true in
+    let tasks : c.deref-in-Task.result.now ≡ task_numbers 0 a.recorded.items = c.deref-in-Task.ensures.value ∙ k.tasks in
+    let size : length c.deref-in-Task-2.result.now ≡ length a.entered.items = ap length c.deref-in-Task-2.ensures.value ∙ length-set a.entered.items c.args.number true in
     let inside = (task-number a.recorded.items j (omega (arith, h, ap length tasks))).0 in
-    let read : get_or c.deref.result.now j d ≡ slice_index (task_numbers 0 a.recorded.items) j = get_or_default c.deref.result.now j d 0 h ∙ ap (λ l. slice_index l j) tasks in
+    let read : get_or c.deref-in-Task.result.now j d ≡ slice_index (task_numbers 0 a.recorded.items) j = get_or_default c.deref-in-Task.result.now j d 0 h ∙ ap (λ l. slice_index l j) tasks in
     omega (arith, read, inside, size, k.entered)
 
 pub returns-in-Step : goal.returns-in-Step

@@ -3,7 +3,7 @@ use Rattle.std.specs.Prelude.{slice_index, nat_le, if◌then◌else◌}
 use Rattle.std.proofs.lemmas.List.{get_or_default}
 use Rattle.std.proofs.lemmas.Bool.Decides.{nat_tests}
 use Rattle.isr_nesting.specs.declared.records.Recorded.{Recorded}
-use Rattle.isr_nesting.specs.Frames.{Interrupt}
+use Rattle.machine_model.specs.Frames.{Interrupt}
 use Rattle.isr_nesting.specs.Least.{nothing}
 use Rattle.isr_nesting.specs.Keys.{key, task_key, task_key_at}
 use Rattle.isr_nesting.specs.Kept.{IsPassed}

@@ -8,11 +8,11 @@ use Rattle.kern_base.specs.declared.outcomes.Waiting.TheVariants.{Obj}
 use Rattle.kern_model.specs.State.{list_at, update_list, without, prio_of, Task}
 use Rattle.kern_model.specs.Micro.{wait_place}
 use Rattle.kern_model.specs.Effect.{blocked, waiting_task, waits_for}
-use Rattle.kern_model.specs.Valid.{IsValid}
-use Rattle.kern_model.proofs.ChangeLaws.{AllWait-pend, length-pend, length-matches}
+use Rattle.kern_model.specs.Valid.{IsLinked}
+use Rattle.kern_model.proofs.Lemmas.{AllWait-pend, length-pend, length-matches}
 use Rattle.kernel_calls.specs.ListView.{lists_in}
 use Rattle.kernel_calls.specs.KernelView.{state_of, kernel_of}
-use Rattle.kernel_calls.proofs.BlockFacts.{blocked-parts, same-record, caller_ready, valid-one_object}
+use Rattle.kernel_calls.proofs.BlockFacts.{blocked-parts, same-record, caller_ready, linked-one_object}
 use Rattle.kernel_calls.proofs.WaiterFacts.{waiters-below}
 use Rattle.kernel_calls.proofs.ServedFacts.{served-task}
 use Rattle.kernel_calls.proofs.kernels.Kernel.block.Goals as goal
@@ -32,8 +32,8 @@ depart-requires c =
     let k = state_of c.self.inside in
     let same : c.get.result.now.prio.0 ≡ prio_of k c.args.task.0 = ap (λ (t : Task). t.prio) c.get.ensures.task in
     let all : length c.deref_mut.result.now ≡ 64 =
-    ap (λ l. length l) c.deref_mut.ensures.value ∙ sym (length-map c.self.inside.ready.items (λ (v : ArrayVec _). v.items)) ∙ c.self.invariant.valid.ready in
-    omega (arith, same, all, (c.self.invariant.valid.each_task c.args.task.0).prio_to)
+    ap (λ l. length l) c.deref_mut.ensures.value ∙ sym (length-map c.self.inside.ready.items (λ (v : ArrayVec _). v.items)) ∙ c.self.invariant.valid.sizes.ready in
+    omega (arith, same, all, (c.self.invariant.valid.tasks.each_task c.args.task.0).prio_to)
 
 pub join-requires-clause-room : goal.join-requires-clause-room
 join-requires-clause-room c =
@@ -58,8 +58,8 @@ invariant_of-self c =
     let may = rw (← c.self.view_is) at c.requires.may in
     let unlocked = rw (← c.self.view_is) at c.requires.unlocked in
     record {
-      valid = subst IsValid (block-same c) (valid-one_object k c.self.invariant.valid c.args.task.0 may unlocked c.args.object c.args.timeout (rw (← c.self.view_is) at c.requires.object));
-      served = served-task k _ c.args.task.0 (waiting_task (waits_for (Obj SemPend) (c.args.object ∷ []) c.args.timeout)) (omega (arith, c.self.invariant.valid.tasks, (caller_ready k c.self.invariant.valid c.args.task.0 may unlocked).0)) c.wait_for.ensures.tasks (λ t h. refl) (λ t h. h) c.self.invariant.served;
+      valid = subst IsLinked (block-same c) (linked-one_object k c.self.invariant.valid c.args.task.0 may unlocked c.args.object c.args.timeout (rw (← c.self.view_is) at c.requires.object));
+      served = served-task k _ c.args.task.0 (waiting_task (waits_for (Obj SemPend) (c.args.object ∷ []) c.args.timeout)) (omega (arith, c.self.invariant.valid.sizes.tasks, (caller_ready k c.self.invariant.valid c.args.task.0 may unlocked).0)) c.wait_for.ensures.tasks (λ t h. refl) (λ t h. h) c.self.invariant.served;
     }
 
 pub returns-clause-valid : goal.returns-clause-valid

@@ -1,6 +1,6 @@
 use Rattle.std.proofs.Common.{arith, ◌≤◌, length}
 use Rattle.kern_model.specs.State.{list_at}
-use Rattle.kern_model.proofs.ChangeLaws.{AllWait-pend, length-pend}
+use Rattle.kern_model.proofs.Lemmas.{AllWait-pend, length-pend}
 use Rattle.kernel_calls.specs.KernelView.{state_of}
 use Rattle.kernel_calls.proofs.WaiterFacts.{waiters-below}
 use Rattle.kernel_calls.proofs.kernels.Kernel.passed.Goals as goal

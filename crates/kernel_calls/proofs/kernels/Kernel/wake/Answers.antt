@@ -1,10 +1,9 @@
 use Rattle.std.proofs.Common.{arith, subst, sym, ap, ◌∙◌, refl}
 use Rattle.std.proofs.lemmas.List.{length-map}
 use Rattle.std.proofs.lemmas.Grind.{common_steps}
-use Rattle.kern_model.specs.Valid.{IsValid}
+use Rattle.kern_model.specs.Valid.{IsLinked}
 use Rattle.kern_model.specs.Effect.{answered_task}
-use Rattle.kern_model.proofs.ValidLaws.{valid-wakes}
-use Rattle.kern_model.proofs.ChangeLaws.{length-ready}
+use Rattle.kern_model.proofs.Lemmas.{linked-wakes, length-ready}
 use Rattle.tcb_pool.specs.TaskView.{task_of}
 use Rattle.kernel_calls.specs.KernelView.{state_of}
 use Rattle.kernel_calls.specs.TaskChanges.{semaphore_result}
@@ -24,9 +23,9 @@ leave_all-requires c =
 pub invariant_of-self : goal.invariant_of-self
 invariant_of-self c =
     record {
-      valid = subst IsValid (grind (arith, common_steps))
-          (valid-wakes (state_of c.self.inside) c.self.invariant.valid c.args.task c.requires.application semaphore_result c.args.head.0 (rw (← c.self.view_is) at c.requires.waits));
-      served = served-task (state_of c.self.inside) _ c.args.task (answered_task semaphore_result) (omega (arith, c.self.invariant.valid.tasks)) c.answer_task.ensures.tasks (λ t h. tt) (λ t h. record { service = refl; no_table = refl }) c.self.invariant.served;
+      valid = subst IsLinked (grind (arith, common_steps))
+          (linked-wakes (state_of c.self.inside) c.self.invariant.valid c.args.task c.requires.application semaphore_result c.args.head.0 (rw (← c.self.view_is) at c.requires.waits));
+      served = served-task (state_of c.self.inside) _ c.args.task (answered_task semaphore_result) (omega (arith, c.self.invariant.valid.sizes.tasks)) c.answer_task.ensures.tasks (λ t h. tt) (λ t h. record { service = refl; no_table = refl }) c.self.invariant.served;
     }
 
 pub returns-clause-valid : goal.returns-clause-valid

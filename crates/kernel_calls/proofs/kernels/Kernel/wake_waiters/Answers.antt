@@ -1,8 +1,8 @@
 use Rattle.std.proofs.Common.{ap, ◌∙◌, refl, subst}
 use Rattle.kern_model.specs.State.{list_at}
 use Rattle.kern_model.specs.Effect.{posted_result, fine}
-use Rattle.kern_model.specs.Valid.{IsValid}
-use Rattle.kern_model.proofs.ChangeLaws.{AllWait-pend}
+use Rattle.kern_model.specs.Valid.{IsLinked}
+use Rattle.kern_model.proofs.Lemmas.{AllWait-pend}
 use Rattle.kernel_calls.specs.KernelView.{state_of}
 use Rattle.kernel_calls.specs.KernelRecord.{KernelRecord}
 use Rattle.kernel_calls.proofs.WaiterFacts.{waiter-next, woken_next, AllWait-chosen}
@@ -20,7 +20,7 @@ loop-task-init c =
     record {
       waiting = rw (c.as_slice-task-items.ensures.value, c.copy_tasks.ensures, c.deref.ensures.value, ← c.self.view_is) (AllWait-chosen k c.args.all (list_at k.pend c.args.object) (AllWait-pend k c.self.invariant.valid c.args.object));
       woken = refl;
-      valid = subst (λ (k : KernelRecord). IsValid k.state) c.self.view_is c.self.invariant.valid;
+      valid = subst (λ (k : KernelRecord). IsLinked k.state) c.self.view_is c.self.invariant.valid;
       registers = refl;
     }
 

@@ -22,8 +22,8 @@ invariant_of-self c =
     let open_yet : a.t < 1000000 = rw (← c.self.view_is) at c.requires.open_yet in
     let rests : Applies Direct TaskActs (machine_of a) = resting (machine_of a) acts in
     let waits : has_result (task_at a.kernel.state a.current.0).answered ≡ true = search rules in
-    let happened = finish-machine a c.finish-line.new.kernel acts waits c.finish-line.ensures.kernel c.finish-line.ensures.no_table in
-    kept-change a _ c.self.invariant open_yet happened (finish-still a c.finish-line.new.kernel waits c.finish-line.ensures.kernel c.self.invariant.still) (none_begun a.in_hand _ rests.0.in_hand) c.self.invariant.vectors
+    let happened = finish-machine a c.finish.new.kernel acts waits c.finish.ensures.kernel c.finish.ensures.no_table in
+    kept-change a _ c.self.invariant open_yet happened (finish-still a c.finish.new.kernel waits c.finish.ensures.kernel c.self.invariant.still) (none_begun a.in_hand _ rests.0.in_hand) c.self.invariant.vectors
 
 -- the task may call a service
 pub instruct-requires-clause-application : goal.instruct-requires-clause-application
@@ -43,4 +43,4 @@ returns-then-is_some-clause-machine c =
     let a = c.self.inside in
     let acts : rule Direct (machine_of a) ≡ TaskActs = rw (← c.self.view_is) at c.requires.rule in
     let waits : has_result (task_at a.kernel.state a.current.0).answered ≡ true = search rules in
-    rw (← c.self.view_is) (finish-machine a c.finish-line.new.kernel acts waits c.finish-line.ensures.kernel c.finish-line.ensures.no_table)
+    rw (← c.self.view_is) (finish-machine a c.finish.new.kernel acts waits c.finish.ensures.kernel c.finish.ensures.no_table)

@@ -25,7 +25,7 @@ returns-in-Some-clause-line c =
     let a = c.self.inside in
     let begun : a.begun ≡ true = rw (← c.self.view_is) at c.requires.begun in
     let comes : Comes a c.in-Some.number = it-comes a c.is_none-free.result c.in-Some.number begun (free-told a.in_hand c.is_none-free.result c.is_none-free.ensures) c.due.ensures.rising (sym c.due.ensures.number ∙ c.in-Some.is) in
-    rw (← c.self.view_is) (enters-line a c.in-Some.number comes _ c.enter.result c.enter.ensures.line (rw c.lock-locked.ensures.value (locked-is a.kernel.state.lock)))
+    rw (← c.self.view_is) (enters-line a c.in-Some.number comes _ c.enter.new.line c.enter.ensures.line (rw c.lock-locked.ensures.value (locked-is a.kernel.state.lock)))
 
 pub returns-in-Some-clause-machine : goal.returns-in-Some-clause-machine
 returns-in-Some-clause-machine c =

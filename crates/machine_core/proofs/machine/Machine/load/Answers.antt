@@ -11,4 +11,4 @@ returns-clause-valid c = (invariant_of-result c).valid
 
 pub returns-clause-start : goal.returns-clause-start
 returns-clause-start c =
-    loaded c.args.image.now c.args.list.now (record { kernel = c.in_ok-kernel.kernel; ram = c.in-Ok.ram; code = c.extend_from_slice.new.self; config = c.config.result; current = c.pick-current.result; frames = c.in_ok-frames.frames; in_hand = None; begun = false; s = 0; t = 0 }) c.in_ok-kernel.ensures.start (search rules) c.pick-current.ensures.value c.in_ok-frames.ensures refl (search rules) c.config.ensures.value c.requires.no_look refl refl refl
+    loaded c.args.image.now c.args.list.now (record { kernel = c.in_ok-kernel.kernel; ram = c.in-Ok.ram; program = c.in-Ok-new.program; config = c.config.result; current = c.pick-current.result; frames = c.in_ok-frames.frames; in_hand = None; begun = false; s = 0; t = 0 }) c.in_ok-kernel.ensures.start (search rules) c.pick-current.ensures.value c.in_ok-frames.ensures refl (search rules) c.config.ensures.value c.requires.no_look refl refl refl

@@ -13,7 +13,7 @@ invariant_of-self c =
     let a = c.self.inside in
     let open_yet : a.t < 1000000 = rw (← c.self.view_is) at c.requires.open_yet in
     let moved : c.if-is_some.self ≡ (change c.args.self.now).machine
-    = elim c.if-is_some.branch [ then-is_some w ↦ w.self-is ∙ w.advance-what.ensures.machine | else-is_some w ↦ w.self-is ∙ w.act-what.ensures.machine ] in
+    = elim c.if-is_some.branch [ then-is_some w ↦ w.self-is ∙ w.advance.ensures.machine | else-is_some w ↦ w.self-is ∙ w.act.ensures.machine ] in
     let happened : machine_of c.self-2.inside ≡ (change (machine_of a)).machine = subst (λ (m : Machine). machine_of c.self-2.inside ≡ (change m).machine) (sym c.self.view_is) (c.self-2.view_is ∙ moved) in
     kept-steps a c.self-2.inside c.self.invariant open_yet happened c.self-2.invariant.still c.self-2.invariant.work c.self-2.invariant.vectors 1 (omega arith)
 
@@ -22,6 +22,6 @@ returns-clause-machine c =
     let a = c.self.inside in
     let goes : GoesOn (machine_of a) = rw (← c.self.view_is) at c.requires.rule in
     let moved : c.if-is_some.self ≡ (change c.args.self.now).machine
-    = elim c.if-is_some.branch [ then-is_some w ↦ w.self-is ∙ w.advance-what.ensures.machine | else-is_some w ↦ w.self-is ∙ w.act-what.ensures.machine ] in
+    = elim c.if-is_some.branch [ then-is_some w ↦ w.self-is ∙ w.advance.ensures.machine | else-is_some w ↦ w.self-is ∙ w.act.ensures.machine ] in
     let happened : machine_of c.self-2.inside ≡ (change (machine_of a)).machine = subst (λ (m : Machine). machine_of c.self-2.inside ≡ (change m).machine) (sym c.self.view_is) (c.self-2.view_is ∙ moved) in
     rw (← c.self.view_is) (next-more a c.self-2.inside happened (raw-goes_on a goes))

@@ -4,28 +4,24 @@ use Rattle.kern_model.specs.Services.{program_serves}
 use Rattle.machine_model.specs.Machine.{Machine}
 use Rattle.machine_model.specs.Answers.{Change}
 use Rattle.machine_model.specs.Rules.{next}
+use Rattle.machine_model.specs.declared.events.Event.{Event}
 use Rattle.machine_laws.specs.Valid.{IsValidMachine}
 use Rattle.machine_laws.proofs.FallLaws.{events_left-next}
-use Rattle.machine_core.specs.Valid.{change}
 use Rattle.machine_core.proofs.MachineFacts.{first-change}
 use Rattle.machine_core.proofs.PrintLaws.{printable-next}
-use Rattle.machine_core.proofs.machine.Machine.step.Goals as goal
-use Rattle.machine_core.proofs.machine.Machine.step.Goals.{then-self, else-self}
-
--- what happens next
-told : (c : goal.After-switch_of) → c.if-self.what.0 ≡ (change c.args.self.now).what
-told c =
-    elim c.if-self.branch [
-      | then-self w ↦ ap (λ p. p.0) w.what-is ∙ w.go_on.ensures.line
-      | else-self w ↦
-          let new : c.args.self.now.begun ≡ false = search rules in
-          ap (λ p. p.0) w.what-is ∙ search rules ∙ ap (λ (d : Change). d.what) (sym (first-change c.args.self.now new))
-    ]
+use Rattle.machine_core.proofs.machine.Machine.step_into.Goals as goal
+use Rattle.machine_core.proofs.machine.Machine.step_into.Goals.{then-self, else-self}
 
 -- no look is to come, which could not be printed
 pub returns-clause-printable : goal.returns-clause-printable
 returns-clause-printable c =
-    let told : c.if-self.what.0 ≡ (next program_serves Direct c.args.self.now).0.what = told c in
+    let told : c.if-self.event.what ≡ (next program_serves Direct c.args.self.now).0.what =
+    elim c.if-self.branch [
+      | then-self w ↦ ap (λ (e : Event). e.what) w.event-is ∙ w.go_on-event.ensures.line
+      | else-self w ↦
+          let new : c.args.self.now.begun ≡ false = search rules in
+          ap (λ (e : Event). e.what) w.event-is ∙ search rules ∙ ap (λ (d : Change). d.what) (sym (first-change c.args.self.now new))
+    ] in
     let none : c.args.self.now.looks ≡ [] = subst (λ (m : Machine). m.looks ≡ []) c.self.view_is refl in
     rw told (printable-next program_serves Direct c.args.self.now none)
 

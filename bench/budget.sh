@@ -1,0 +1,68 @@
+#!/bin/sh
+# Holds the program to its budget in instructions of the processor, which other work on the machine does not change: for each case the
+# instructions of one task step, as the difference of a run to 150,000 task steps and one to 50,000, divided by 100,000. Prints a line
+# for each case, and fails where one is above its budget.
+# Needs valgrind. First build the program: (cd crates/ucos3 && rt run)
+set -eu
+cd "$(dirname "$0")/.."
+. bench/built.sh
+built ucos3
+command -v valgrind > /dev/null || { echo "no valgrind here" >&2; exit 1; }
+
+task='.task a, go, 10, 0, 0, 0x140000'
+
+# Three instructions, again and again.
+loop() {
+    printf '.code\ngo: addi t0, t0, 1\nxor t1, t1, t0\nj go\n%s\n' "$task"
+}
+
+# A load in the place of one of them.
+memory() {
+    printf '.code\ngo: la s0, box\nagain: lw t0, 0(s0)\naddi t0, t0, 1\nj again\n.ram\nbox: .word 0\n%s\n' "$task"
+}
+
+# One task posts to a semaphore and takes it.
+semaphore() {
+    printf '.code\ngo: li a0, s\nos OSSemPost\nli a0, s\nos OSSemPend\nj go\n.sem s, 0\n%s\n' "$task"
+}
+
+# A task that wakes the other, and waits to be woken by it.
+turns() {
+    printf '%s: li a0, %s\nli a1, 0\nos OSSemPost\nli a0, %s\nli a1, 0\nli a2, 0\nos OSSemPend\nj %s\n' "$1" "$2" "$3" "$1"
+}
+
+two_tasks() {
+    echo .code
+    turns go s u
+    turns back u s
+    printf '.sem s, 0\n.sem u, 0\n%s\n.task b, back, 10, 0, 0, 0x13e000\n' "$task"
+}
+
+# A task counts while every sixtieth raw step an interrupt comes, whose post wakes a task of a higher priority.
+interrupts() {
+    printf '.code\ngo: addi t0, t0, 1\nj go\nhandler: os OSSemPost\nret\nwoken: os OSSemPend\nj woken\n.sem s, 0\n%s\n' "$task"
+    printf '.task b, woken, 5, 0, 0, 0x13e000\n.vector 3, 2, handler, 0x13f000\n.inject\n'
+    awk 'BEGIN { for (i = 0; i < 16384; i++) print "step " 60 * i + 7 ", 3" }'
+}
+
+# The instructions of a run of a case to so many task steps.
+instructions() {
+    valgrind --tool=callgrind --callgrind-out-file=/dev/null "$program" run direct "$2" < "$folder/$1" 2>&1 > /dev/null |
+        awk '/Collected/ { print $NF }'
+}
+
+# Measures a case against its budget.
+over=0
+measure() {
+    "$1" > "$folder/$1"
+    step=$((($(instructions "$1" 150000) - $(instructions "$1" 50000)) / 100000))
+    echo "$1: $step instructions a task step, budget $2"
+    if [ "$step" -gt "$2" ]; then over=1; fi
+}
+
+measure loop 130
+measure memory 150
+measure semaphore 600
+measure two_tasks 550
+measure interrupts 260
+exit $over
