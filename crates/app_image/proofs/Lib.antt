@@ -11,3 +11,5 @@ pub mod BackFields
 pub mod BackChecks
 pub mod BackImage
 pub mod BackWhole
+pub mod StoredLaws
+pub mod HeldLaws

@@ -12,4 +12,5 @@ pub mod Layout
 pub mod Fields
 pub mod Places
 pub mod Reading
+pub mod Held
 pub mod RoundTrip

@@ -19,8 +19,9 @@ pub use causes::{ImageCause, ImageError};
 pub use checking::check;
 pub use images::{Image, RawImage};
 pub use names::Name;
+pub use naming::is_free_name;
 pub use parts::read_image;
-pub use records::{ObjDef, TaskDef, VectorDef};
+pub use records::{ObjDef, Symbol, TaskDef, VectorDef};
 pub use settings::{Config, ConfigKey, ConfigLine};
 pub use writing::write_image;
 

@@ -1,11 +1,12 @@
 // The parts of a binary image, read.
 
-ghost use Rattle.std.specs.Prelude.{◌≡◌, ◌+◌, ◌*◌, ◌≤◌, length, take, All, IfOk, MatchResult};
+ghost use Rattle.std.specs.Prelude.{◌≡◌, ◌+◌, ◌*◌, ◌≤◌, ℕ, Ok, length, take, All, IfOk, MatchResult};
 ghost use Rattle.app_image.specs.Fields.{word_at, rows};
 ghost use Rattle.app_image.specs.Layout.{magic};
 ghost use Rattle.app_image.specs.Names.{IsFreeName};
 ghost use Rattle.app_image.specs.Places.{image_size};
-ghost use Rattle.app_image.specs.Raw.{IsMade};
+ghost use Rattle.app_image.specs.Raw.{IsMade, RawRecord};
+ghost use Rattle.app_image.specs.Held.{Holds};
 ghost use Rattle.app_image.specs.Reading.{name_at, task_at, object_at, vector_at, setting_at, settings_at, raw_at, names_at, image_in, OrNoMemory};
 
 use crate::header::{self, Header, word_at};
@@ -188,13 +189,16 @@ fn read_parts(alloc: Global, bytes: &[u8], h: &Header) -> Result<RawImage, Image
     })
 }
 
-/// The raw image that is a front of the bytes, of version 1 or 2, and how many bytes it has. A raw
-/// image of version 1 has nine settings, one of version 2 has ten; line numbers are 0. Refused as
+/// The raw image that the first bytes hold, in version 1 or 2 of the format, and how many bytes it has:
+/// exactly where they are its layout. One of version 1 has nine settings, one of version 2 has ten;
+/// line numbers are 0. Refused as
 /// `Layout`, and where nothing is wrong with the layout as `BadName`, each with line 0. Each count is
 /// tested, and the bytes that it claims are known to be there, before memory is taken.
 pub fn read_image(alloc: Global, bytes: &[u8]) -> Result<(RawImage, usize), ImageError>
     requires { take 4 bytes.now ≡ magic }
     ensures answer { OrNoMemory result (image_in bytes.now) }
+    ensures held { IfOk result (λ p. Holds bytes.now p.0 p.1) }
+    ensures all { (raw : RawRecord) (size : ℕ) → Holds bytes.now raw size → OrNoMemory result (Ok (raw, size)) }
     ensures made { IfOk result (λ p. IsMade p.0) }
 {
     if !is_layout(bytes) {

@@ -21,6 +21,17 @@ pub struct TaskDef {
     pub line: u32,
 }
 
+/// A symbol of an executable: a name in its bytes, and what the name stands for.
+#[derive(Clone, Copy, PartialEq, Eq, Debug)]
+pub struct Symbol {
+    /// The place of the name's first byte.
+    pub start: u32,
+    /// How many bytes the name has.
+    pub len: u32,
+    /// The value, mostly an address.
+    pub value: u32,
+}
+
 /// A declared object.
 #[derive(Clone, Copy)]
 pub struct ObjDef {

@@ -1,6 +1,6 @@
 -- The bytes of a token are those of its kind.
-use Rattle.std.proofs.Common.{◌≡◌, ℕ, zero, suc, ◌+◌, ◌≤◌, ◌⊎◌, List, [], ◌∷◌, drop, take, Bool, true, false, arith, refl, ap, subst, ℤ, pos, negsuc}
-use Rattle.std.specs.Prelude.{nat_lt, neg_ℤ, ◌≤ℤ◌, ◌&&◌, ◌==◌}
+use Rattle.std.proofs.Common.{◌≡◌, ℕ, zero, suc, ◌+◌, ◌≤◌, ◌⊎◌, List, [], ◌∷◌, drop, take, Bool, true, arith, refl, ap, subst, ℤ, pos}
+use Rattle.std.specs.Prelude.{nat_lt, neg_ℤ, ◌==◌}
 use Rattle.std.specs.List.{prefix_len, take_while, list_all}
 use Rattle.std.proofs.lemmas.Bool.{cond_both, eqb-true, eq-eqb, ltb-false, and_from}
 use Rattle.std.proofs.lemmas.Int.{ints}
@@ -8,22 +8,13 @@ use Rattle.std.proofs.lemmas.List.Sums.{take_while-cons}
 use Rattle.text_lex.specs.Bytes.{class_of, is_blank, is_name_byte, is_letter, is_digit, is_name}
 use Rattle.text_lex.specs.Numbers.{Numeral, numeral}
 use Rattle.text_lex.specs.Pieces.{closed, positive, negative, after_minus, after_dot, piece_of, piece_at}
+use Rattle.text_lex.specs.Division.{is_directive, IsInRange}
 use Rattle.text_lex.specs.declared.TokenKind.{TokenKind}
 use Rattle.text_lex.specs.declared.TokenKind.TheVariants.{Name, Directive, Number, Comma, Open, Close, Colon, End}
 use Rattle.text_lex.specs.declared.bytes.ByteClass.{ByteClass}
 use Rattle.text_lex.specs.declared.bytes.ByteClass.TheVariants.{Blank, Hash, LineFeed, Letter, Dot, Minus, Digit, Sign, Other}
 use Rattle.text_lex.specs.declared.pieces.Piece.{Piece}
 use Rattle.text_lex.specs.declared.pieces.Piece.TheVariants.{Ends, Gives, Bad, TooLarge}
-
--- from -2,147,483,648 to 4,294,967,295
-pub record IsInRange (value : ℤ) : Type 0 where
-  pub least : negsuc 2147483647 ≤ℤ value
-  pub most : value ≤ℤ pos 4294967295
-
--- a dot and a name
-abbrev pub is_directive : List ℕ → Bool
-is_directive [] = false
-is_directive (byte ∷ bytes) = byte == 46 && is_name bytes
 
 -- bytes that a token of this kind has
 abbrev pub AreOfKind : TokenKind → List ℕ → Type 0
@@ -44,7 +35,7 @@ GivesItsKind byte rest Ends = byte ≡ 10
 GivesItsKind byte rest _ = Unit {0}
 
 -- what a byte of a class is
-abbrev IsSign : TokenKind → ℕ → Type 0
+abbrev pub IsSign : TokenKind → ℕ → Type 0
 IsSign Comma byte = byte ≡ 44
 IsSign Open byte = byte ≡ 40
 IsSign Close byte = byte ≡ 41
@@ -52,6 +43,8 @@ IsSign Colon byte = byte ≡ 58
 IsSign _ byte = ⊥
 
 abbrev pub IsOfClass : ℕ → ByteClass → Type 0
+IsOfClass byte Blank = is_blank byte ≡ true
+IsOfClass byte Hash = byte ≡ 35
 IsOfClass byte LineFeed = byte ≡ 10
 IsOfClass byte Letter = is_letter byte ≡ true
 IsOfClass byte Dot = byte ≡ 46
@@ -62,8 +55,8 @@ IsOfClass byte _ = Unit {0}
 
 pub is_of_class : (byte : ℕ) → IsOfClass byte (class_of byte)
 is_of_class byte =
-    cond_both (is_blank byte) Blank _ (IsOfClass byte) (λ e. tt) (λ e.
-    cond_both (byte == 35) Hash _ (IsOfClass byte) (λ e. tt) (λ e.
+    cond_both (is_blank byte) Blank _ (IsOfClass byte) (λ e. e) (λ e.
+    cond_both (byte == 35) Hash _ (IsOfClass byte) (λ e. eqb-true byte 35 e) (λ e.
     cond_both (byte == 10) LineFeed _ (IsOfClass byte) (λ e. eqb-true byte 10 e) (λ e.
     cond_both (is_letter byte) Letter _ (IsOfClass byte) (λ e. e) (λ e.
     cond_both (byte == 46) Dot _ (IsOfClass byte) (λ e. eqb-true byte 46 e) (λ e.
@@ -75,7 +68,7 @@ is_of_class byte =
     cond_both (byte == 58) (Sign Colon) Other (IsOfClass byte) (λ e. eqb-true byte 58 e) (λ e. tt)))))))))))
 
 -- the longest front that passes a test passes it
-all_of_front : (p : ℕ → Bool) (bytes : List ℕ) → list_all p (take_while p bytes) ≡ true
+pub all_of_front : (p : ℕ → Bool) (bytes : List ℕ) → list_all p (take_while p bytes) ≡ true
 all_of_front p [] = refl
 all_of_front p (byte ∷ bytes) =
     rw (take_while-cons p byte bytes)
@@ -83,7 +76,7 @@ all_of_front p (byte ∷ bytes) =
     (λ e. and_from (p byte) (list_all p (take_while p bytes)) e (all_of_front p bytes)) (λ e. refl))
 
 -- a letter and the longest front of name bytes behind it are a name
-name_here : (byte : ℕ) (rest : List ℕ) → is_letter byte ≡ true → is_name (byte ∷ take (prefix_len is_name_byte rest) rest) ≡ true
+pub name_here : (byte : ℕ) (rest : List ℕ) → is_letter byte ≡ true → is_name (byte ∷ take (prefix_len is_name_byte rest) rest) ≡ true
 name_here byte rest e = and_from (is_letter byte) _ e (all_of_front is_name_byte rest)
 
 closed_kind : (first : ℕ) (bytes : List ℕ) (value : ℤ) (further : ℕ) (behind : List ℕ) → IsInRange value → GivesItsKind first bytes (closed value further behind)
@@ -91,10 +84,10 @@ closed_kind first bytes value further [] r = r
 closed_kind first bytes value further (byte ∷ behind) r =
     cond_both (is_name_byte byte) (Bad (further + 1)) (Gives (Number value) further) (GivesItsKind first bytes) (λ e. tt) (λ e. r)
 
-positive_range : (n : ℕ) → n ≤ 4294967295 → IsInRange (pos n)
+pub positive_range : (n : ℕ) → n ≤ 4294967295 → IsInRange (pos n)
 positive_range n h = record { least = omega (arith, ints); most = omega (arith, ints, h) }
 
-negative_range : (n : ℕ) → n ≤ 2147483648 → IsInRange (neg_ℤ (pos n))
+pub negative_range : (n : ℕ) → n ≤ 2147483648 → IsInRange (neg_ℤ (pos n))
 negative_range zero h = positive_range 0 (omega arith)
 negative_range (suc n) h = record { least = omega (arith, ints, h); most = omega (arith, ints) }
 

@@ -3,4 +3,5 @@ pub mod PieceLaws
 pub mod KindLaws
 pub mod Reading
 pub mod TokenFacts
+pub mod DivisionLaws
 pub mod Cases

@@ -5,12 +5,13 @@ use Rattle.std.proofs.lemmas.List.{drop-drop, length-take, length-drop}
 use Rattle.text_lex.specs.Bytes.{is_name}
 use Rattle.text_lex.specs.Pieces.{piece_at, PieceFits}
 use Rattle.text_lex.specs.Tokens.{Lexed, Tokens, BadByteAt, TooLargeAt, before, token, lexed_from, lexed, last_end, bytes_of}
+use Rattle.text_lex.specs.Division.{IsInRange, line_behind, goes_on}
 use Rattle.text_lex.specs.declared.Token.{Token}
 use Rattle.text_lex.specs.declared.TokenKind.{TokenKind}
 use Rattle.text_lex.specs.declared.TokenKind.TheVariants.{Name, Directive, Number, Comma, Open, Close, Colon, End}
 use Rattle.text_lex.specs.declared.pieces.Piece.{Piece}
 use Rattle.text_lex.specs.declared.pieces.Piece.TheVariants.{Skips, Ends, Gives, Bad, TooLarge}
-use Rattle.text_lex.proofs.KindLaws.{AreOfKind, IsInRange, GivesItsKind, piece_kind}
+use Rattle.text_lex.proofs.KindLaws.{AreOfKind, GivesItsKind, piece_kind}
 use Rattle.text_lex.proofs.PieceLaws.{piece_within}
 use Rattle.text_lex.proofs.Reading.{piece_read, lexed_from-cons}
 
@@ -18,15 +19,6 @@ use Rattle.text_lex.proofs.Reading.{piece_read, lexed_from-cons}
 pub record IsTokenOf (text : List ℕ) (token : Token) : Type 0 where
   pub inside : token.start + token.len ≤ length text
   pub kind : AreOfKind token.kind (bytes_of text token)
-
--- whether the line has a byte behind a token of this kind, and its number
-abbrev pub goes_on : TokenKind → Bool
-goes_on End = false
-goes_on _ = true
-
-abbrev pub line_behind : TokenKind → ℕ → ℕ
-line_behind End line = line + 1
-line_behind _ line = line
 
 -- tokens of a text from a place on: each begins at or behind the one before ends, each stands on the line
 -- that the ends before it give, and the last is an end where the line has a byte

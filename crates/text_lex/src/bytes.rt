@@ -1,8 +1,8 @@
 // What a byte of a text begins.
 
 ghost use Rattle.std.specs.Prelude.{◌≡◌, ◌≤◌, length};
-ghost use Rattle.std.specs.List.{prefix_len};
-ghost use Rattle.text_lex.specs.Bytes.{class_of, is_letter, is_digit, is_hex_digit, is_name_byte, is_not_line_feed};
+ghost use Rattle.std.specs.List.{list_all, prefix_len};
+ghost use Rattle.text_lex.specs.Bytes.{class_of, is_letter, is_digit, is_hex_digit, is_name, is_name_byte, is_not_line_feed};
 
 use crate::TokenKind;
 
@@ -113,4 +113,25 @@ pub fn hex_len(bytes: &[u8]) -> usize
         }
     }
     bytes.len()
+}
+
+fn are_name_bytes(bytes: &[u8]) -> bool
+    ensures { result ≡ list_all is_name_byte bytes.now }
+{
+    for byte in bytes {
+        if !is_name_byte(*byte) {
+            return false;
+        }
+    }
+    true
+}
+
+/// Whether bytes are a name: a letter or `_`, then letters, digits and `_`.
+pub fn is_name(bytes: &[u8]) -> bool
+    ensures { result ≡ is_name bytes.now }
+{
+    match bytes {
+        [] => false,
+        [first, rest @ ..] => is_letter(*first) && are_name_bytes(rest),
+    }
 }

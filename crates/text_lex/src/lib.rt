@@ -8,6 +8,7 @@ mod scan;
 #[cfg(test)]
 mod tests;
 
+pub use bytes::is_name;
 pub use scan::{slice, tokens};
 use thiserror::Error;
 

@@ -1,17 +1,20 @@
 // The tokens of a text.
 
 ghost use Rattle.std.specs.Prelude.{◌≡◌, ◌≤◌, ◌<◌, ◌+◌, ◌^◌, ◌++◌, [], ◌∷◌, length, IfOk, IfErr, OnOk, OnErr};
+ghost use Rattle.text_lex.specs.Division.{IsDivided};
 ghost use Rattle.text_lex.specs.Tokens.{bytes_of, lexed, token, IsFault, Tokens};
 
 use crate::pieces::{Piece, piece_from};
 use crate::{LexError, TEXT_LIMIT, Token, TokenKind};
 use std::alloc::Global;
 
-/// The tokens of a text of at most `TEXT_LIMIT` bytes, in order. Each is the longest that begins at
-/// its place. Blanks are space, tab and carriage return; a comment goes from `#` to the line feed.
+/// The tokens of a text of at most `TEXT_LIMIT` bytes, in order. Tokens, blanks and comments are the
+/// whole text, without a gap, and each token is the longest that begins at its place. Blanks are space,
+/// tab and carriage return; a comment goes from `#` to the line feed.
 pub fn tokens(alloc: Global, text: &[u8]) -> Result<Vec<Token>, LexError>
     requires { length text.now ≤ TEXT_LIMIT }
     ensures tokens { IfOk result (λ found. lexed text.now ≡ Tokens found.items) }
+    ensures divided { IfOk result (λ found. IsDivided text.now found.items) }
     ensures fault { IfErr result (λ error. IsFault error (lexed text.now)) }
 {
     let mut found = Vec::new(alloc);

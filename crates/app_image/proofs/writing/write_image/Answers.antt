@@ -3,7 +3,7 @@ use Rattle.std.specs.List.{flat_map}
 use Rattle.std.proofs.lemmas.Result.{err_from_is_err_and}
 use Rattle.app_image.specs.Layout.{words_bytes, setting_values, header_bytes, task_bytes, object_bytes, vector_bytes, layout}
 use Rattle.app_image.specs.RoundTrip.{ReadsBack}
-use Rattle.app_image.proofs.BackWhole.{ReadsBack-valid}
+use Rattle.app_image.proofs.StoredLaws.{ReadsBack-valid}
 use Rattle.app_image.proofs.Pieces.{on_ok, Wrote, wrote_none, wrote_next, wrote_part, wrote_last}
 use Rattle.app_image.proofs.writing.write_image.Goals as goal
 

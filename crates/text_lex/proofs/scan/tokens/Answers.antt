@@ -5,6 +5,7 @@ use Rattle.text_lex.specs.declared.Token.{Token}
 use Rattle.text_lex.specs.declared.TokenKind.TheVariants.{End}
 use Rattle.text_lex.specs.declared.pieces.Piece.TheVariants.{Skips, Ends, Gives, Bad, TooLarge}
 use Rattle.text_lex.proofs.Reading.{joined, joined_push, joined_bad, joined_large, lexed_from-piece, lexed_from-behind, lexed-all}
+use Rattle.text_lex.proofs.DivisionLaws.{divided}
 use Rattle.text_lex.proofs.scan.tokens.Goals as goal
 use Rattle.text_lex.proofs.scan.tokens.Goals.{then-begun+in_ok-add, else-begun}
 
@@ -79,3 +80,7 @@ returns-clause-tokens c =
           ∙ (ap (λ b. Tokens (c.reading.found.items ++ last_end b c.reading.at c.reading.line)) w.if-begun.false
           ∙ (ap Tokens (append-nil c.reading.found.items) ∙ sym (ap (λ (v : Vec Token Global). Tokens v.items) w.found-is)))
     ]
+
+-- and the text is divided into them
+pub returns-clause-divided : goal.returns-clause-divided
+returns-clause-divided c = divided c.args.text.now c.if-begun.found.items (returns-clause-tokens c)
