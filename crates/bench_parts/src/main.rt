@@ -4,6 +4,7 @@
 
 mod assembling;
 mod lexing;
+mod linking;
 mod running;
 
 use std::alloc::Global;
@@ -20,6 +21,10 @@ fn done(alloc: Global, part: &str, count: usize) -> anyhow::Result<usize> {
         "assemble-names" => assembling::names_assembled(alloc, count),
         "instructions" => running::instructions(alloc, count),
         "additions" => running::additions(count),
+        "links-number-2" => linking::by_number(alloc, 1, count),
+        "links-number-60" => linking::by_number(alloc, 59, count),
+        "links-pointer-2" => linking::by_pointer(alloc, 1, count),
+        "links-pointer-60" => linking::by_pointer(alloc, 59, count),
         _ => anyhow::bail!("no part is called {part}"),
     }
 }

@@ -1,0 +1,4 @@
+pub mod Tasks
+pub mod Places
+pub mod Heads
+pub mod Consistent
