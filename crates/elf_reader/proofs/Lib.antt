@@ -1,0 +1,4 @@
+pub mod RowLaws
+pub mod NameLaws
+pub mod CellLaws
+pub mod Outcomes

@@ -1,0 +1,6 @@
+pub mod Tables
+pub mod Memory
+pub mod Cells
+pub mod Symbols
+pub mod Known
+pub mod Executable
