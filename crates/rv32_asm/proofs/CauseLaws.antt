@@ -5,9 +5,12 @@ use Rattle.std.specs.List.{find, list_any}
 use Rattle.std.proofs.lemmas.Bool.{or_from}
 use Rattle.text_lex.specs.declared.Token.{Token}
 use Rattle.app_image.specs.Raw.{RawRecord}
-use Rattle.rv32_asm.specs.Names.{Names, counted}
-use Rattle.rv32_asm.specs.Places.{bytes_of, place_after}
-use Rattle.rv32_asm.specs.Assembled.{assembled_from, with_statement, Refuses}
+use Rattle.rv32_asm.specs.Names.{Names}
+use Rattle.rv32_asm.specs.Steps.{counted}
+use Rattle.rv32_asm.specs.Places.{bytes_of}
+use Rattle.rv32_asm.specs.Steps.{place_after}
+use Rattle.rv32_asm.specs.Steps.{assembled_from, with_statement}
+use Rattle.rv32_asm.specs.Assembly.{Refuses}
 use Rattle.rv32_asm.specs.Operands.{registers_in}
 use Rattle.rv32_asm.specs.Causes.{is_register, has_constant_out_of_range, has_undefined, has_wrong_kind, has_far_target, has_long_name, is_too_many, is_defined_twice, has_early, early_causes, is_early}
 use Rattle.rv32_asm.specs.Refusal.{overfills_code, overfills_ram, has, causes, cause_of}

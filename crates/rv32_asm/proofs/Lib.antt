@@ -16,4 +16,7 @@ pub mod MadeDistinct
 pub mod MadeServices
 pub mod MadeNames
 pub mod Made
+pub mod StepLaws
+pub mod InitialLaws
+pub mod CalmLaws
 mod Worked

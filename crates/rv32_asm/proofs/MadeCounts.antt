@@ -8,11 +8,12 @@ use Rattle.app_image.specs.declared.records.TaskDef.{TaskDef}
 use Rattle.app_image.specs.declared.records.ObjDef.{ObjDef}
 use Rattle.app_image.specs.declared.records.VectorDef.{VectorDef}
 use Rattle.app_image.specs.declared.settings.ConfigKey.{ConfigKey}
-use Rattle.rv32_asm.specs.Names.{Names, counted}
+use Rattle.rv32_asm.specs.Names.{Names}
+use Rattle.rv32_asm.specs.Steps.{counted}
 use Rattle.rv32_asm.specs.Causes.{is_too_many}
 use Rattle.rv32_asm.specs.Instructions.{words}
 use Rattle.rv32_asm.specs.Operands.{value_of}
-use Rattle.rv32_asm.specs.Assembled.{with_words, with_setting, with_statement}
+use Rattle.rv32_asm.specs.Steps.{with_words, with_setting, with_statement}
 use Rattle.rv32_asm.specs.declared.mnemonics.Section.{Section}
 use Rattle.rv32_asm.specs.declared.mnemonics.Section.TheVariants.{Nowhere, Code, Ram}
 use Rattle.rv32_asm.specs.declared.statements.Statement.{Statement}

@@ -4,10 +4,12 @@ use Rattle.std.proofs.lemmas.List.Elements.{All-nil}
 use Rattle.text_lex.specs.declared.Token.{Token}
 use Rattle.app_image.specs.Raw.{RawRecord, HasZerosUnused}
 use Rattle.rv32_asm.specs.Lines.{read}
-use Rattle.rv32_asm.specs.Names.{Names, names_of, no_counts}
+use Rattle.rv32_asm.specs.Names.{Names}
+use Rattle.rv32_asm.specs.Steps.{names_of, no_counts}
 use Rattle.rv32_asm.specs.Operands.{no_place}
-use Rattle.rv32_asm.specs.Places.{places_of}
-use Rattle.rv32_asm.specs.Assembled.{assembled, empty_image, Gives}
+use Rattle.rv32_asm.specs.Steps.{places_of}
+use Rattle.rv32_asm.specs.Steps.{assembled_by_steps, empty_image}
+use Rattle.rv32_asm.specs.Assembly.{Gives}
 use Rattle.rv32_asm.specs.declared.places.Counts.{Counts}
 use Rattle.rv32_asm.specs.declared.places.Place.{Place}
 use Rattle.rv32_asm.proofs.MadeSteps.{Keeps, Ends, kept}
@@ -57,7 +59,7 @@ limits c p raw h = record {
 }
 
 -- an assembled image is within the limits
-pub meets_limits : (text : List ℕ) (tokens : List Token) (raw : RawRecord) (used : ℕ) → assembled text tokens ≡ Gives raw used → MeetsLimits raw
+pub meets_limits : (text : List ℕ) (tokens : List Token) (raw : RawRecord) (used : ℕ) → assembled_by_steps text tokens ≡ Gives raw used → MeetsLimits raw
 meets_limits text tokens raw used given =
     let lines = (read text tokens).lines in
     let names = names_of text lines in

@@ -14,11 +14,13 @@ use Rattle.app_image.specs.declared.records.TaskDef.{TaskDef}
 use Rattle.app_image.specs.declared.records.ObjDef.{ObjDef}
 use Rattle.rv32_asm.specs.Pieces.{spelling}
 use Rattle.rv32_asm.specs.Lines.{read}
-use Rattle.rv32_asm.specs.Names.{Names, names_of, counted, no_counts}
+use Rattle.rv32_asm.specs.Names.{Names}
+use Rattle.rv32_asm.specs.Steps.{names_of, counted, no_counts}
 use Rattle.rv32_asm.specs.Operands.{no_place}
 use Rattle.rv32_asm.specs.Causes.{is_on, is_constant_on, is_statement_of, label_again, name_again, name_in, is_short, has_long_name}
-use Rattle.rv32_asm.specs.Places.{places_of}
-use Rattle.rv32_asm.specs.Assembled.{Gives, with_words, with_setting, with_statement, empty_image, assembled}
+use Rattle.rv32_asm.specs.Steps.{places_of}
+use Rattle.rv32_asm.specs.Steps.{with_words, with_setting, with_statement, empty_image, assembled_by_steps}
+use Rattle.rv32_asm.specs.Assembly.{Gives}
 use Rattle.rv32_asm.specs.declared.pieces.Span.{Span}
 use Rattle.rv32_asm.specs.declared.mnemonics.Section.{Section}
 use Rattle.rv32_asm.specs.declared.mnemonics.Section.TheVariants.{Nowhere, Code, Ram}
@@ -184,7 +186,7 @@ has_free_names names raw lines h = record {
 }
 
 -- the names of an assembled image are free and distinct
-pub made_names : (text : List ℕ) (tokens : List Token) (raw : RawRecord) (used : ℕ) → lexed text ≡ Tokens tokens → assembled text tokens ≡ Gives raw used → HasFreeNames raw
+pub made_names : (text : List ℕ) (tokens : List Token) (raw : RawRecord) (used : ℕ) → lexed text ≡ Tokens tokens → assembled_by_steps text tokens ≡ Gives raw used → HasFreeNames raw
 made_names text tokens raw used e h =
     let reading = read text tokens in
     let names = names_of text reading.lines in

@@ -7,11 +7,12 @@ use Rattle.app_image.specs.Raw.{RawRecord}
 use Rattle.app_image.specs.declared.settings.ConfigKey.{ConfigKey}
 use Rattle.rv32_asm.specs.Names.{Names}
 use Rattle.rv32_asm.specs.Causes.{has_constant_out_of_range, has_undefined, has_wrong_kind, is_early}
-use Rattle.rv32_asm.specs.Places.{size_of, bytes_of, filled, turned, place_after}
+use Rattle.rv32_asm.specs.Places.{size_of, bytes_of}
+use Rattle.rv32_asm.specs.Steps.{filled, turned, place_after}
 use Rattle.rv32_asm.specs.Refusal.{overfills_code, overfills_ram}
 use Rattle.rv32_asm.specs.Instructions.{words}
 use Rattle.rv32_asm.specs.Operands.{value_of}
-use Rattle.rv32_asm.specs.Assembled.{with_words, with_setting, with_statement}
+use Rattle.rv32_asm.specs.Steps.{with_words, with_setting, with_statement}
 use Rattle.rv32_asm.specs.declared.mnemonics.Section.{Section}
 use Rattle.rv32_asm.specs.declared.mnemonics.Section.TheVariants.{Nowhere, Code, Ram}
 use Rattle.rv32_asm.specs.declared.statements.Statement.{Statement}

@@ -5,7 +5,8 @@ use Rattle.std.specs.Str.{bytes_eq}
 use Rattle.std.proofs.lemmas.Slice.Eq.{bytes_eq-Decides}
 use Rattle.kern_base.specs.Services.{service_name, service_of}
 use Rattle.app_image.specs.Names.{names_service, is_service_name}
-use Rattle.rv32_asm.specs.Names.{Defined, first_of, names_of, services_defined, defined_at_start, all_defined, no_counts}
+use Rattle.rv32_asm.specs.Names.{Defined, first_of, services_defined, defined_at_start}
+use Rattle.rv32_asm.specs.Steps.{names_of, all_defined, no_counts}
 use Rattle.rv32_asm.specs.declared.statements.Line.{Line}
 use Rattle.rv32_asm.specs.declared.places.Definition.{Definition}
 

@@ -4,9 +4,11 @@ use Rattle.std.specs.Prelude.{Option, Some, None}
 use Rattle.std.specs.List.{AllByRecursion}
 use Rattle.text_lex.specs.declared.Token.{Token}
 use Rattle.app_image.specs.Raw.{RawRecord}
-use Rattle.rv32_asm.specs.Names.{Names, counted}
-use Rattle.rv32_asm.specs.Places.{place_after}
-use Rattle.rv32_asm.specs.Assembled.{assembled_from, with_statement, Gives}
+use Rattle.rv32_asm.specs.Names.{Names}
+use Rattle.rv32_asm.specs.Steps.{counted}
+use Rattle.rv32_asm.specs.Steps.{place_after}
+use Rattle.rv32_asm.specs.Steps.{assembled_from, with_statement}
+use Rattle.rv32_asm.specs.Assembly.{Gives}
 use Rattle.rv32_asm.specs.Refusal.{cause_of}
 use Rattle.rv32_asm.specs.declared.statements.Line.{Line}
 use Rattle.rv32_asm.specs.declared.places.Counts.{Counts}

@@ -11,7 +11,8 @@ use Rattle.rv32_asm.specs.Forms.{unused}
 use Rattle.rv32_asm.specs.Names.{Names}
 use Rattle.rv32_asm.specs.Operands.{value_of}
 use Rattle.rv32_asm.specs.Instructions.{words}
-use Rattle.rv32_asm.specs.Assembled.{word_values, with_words, with_setting, with_statement}
+use Rattle.rv32_asm.specs.Assembled.{word_values}
+use Rattle.rv32_asm.specs.Steps.{with_words, with_setting, with_statement}
 use Rattle.rv32_asm.specs.declared.pieces.Operand.{Operand}
 use Rattle.rv32_asm.specs.declared.mnemonics.Section.{Section}
 use Rattle.rv32_asm.specs.declared.mnemonics.Section.TheVariants.{Nowhere, Code, Ram}

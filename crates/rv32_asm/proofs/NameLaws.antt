@@ -5,7 +5,8 @@ use Rattle.std.specs.Option.{option_or}
 use Rattle.std.specs.Str.{bytes_eq}
 use Rattle.std.proofs.lemmas.Bool.{false_from_ne_true}
 use Rattle.std.proofs.lemmas.Slice.Eq.{bytes_eq-Decides}
-use Rattle.rv32_asm.specs.Names.{Defined, Names, first_of, names_of, all_defined, defined_at_start, label_defines, statement_defines, counted, no_counts}
+use Rattle.rv32_asm.specs.Names.{Defined, Names, first_of, defined_at_start, label_defines, statement_defines}
+use Rattle.rv32_asm.specs.Steps.{names_of, all_defined, counted, no_counts}
 use Rattle.rv32_asm.specs.declared.places.Counts.{Counts}
 use Rattle.rv32_asm.specs.declared.statements.Line.{Line}
 use Rattle.rv32_asm.specs.declared.statements.Statement.{Statement}

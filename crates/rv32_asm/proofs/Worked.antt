@@ -5,7 +5,8 @@ use Rattle.text_lex.specs.Tokens.{Lexed, Tokens, lexed}
 use Rattle.kern_base.specs.declared.kinds.Kind.TheVariants.{Sem}
 use Rattle.rv32_asm.specs.Words.{service_number}
 use Rattle.rv32_asm.specs.Names.{defined_at_start}
-use Rattle.rv32_asm.specs.Assembled.{Assembly, Gives, Refuses, assembled}
+use Rattle.rv32_asm.specs.Assembled.{assembled}
+use Rattle.rv32_asm.specs.Assembly.{Assembly, Gives, Refuses}
 use Rattle.rv32_asm.specs.declared.causes.AsmCause.TheVariants.{UnknownStatement, DefinedTwice, TargetRange}
 
 -- what a text is assembled to whose tokens are these
@@ -25,13 +26,13 @@ one_semaphore : text_assembled (codes ".code\ngo: li a0, s\nos OSSemPost\nli a0,
       code = 0x00000513 ∷ 0x00100893 ∷ 0x00000073 ∷ 0x00000513 ∷ 0x00700893 ∷ 0x00000073 ∷ 0xfe9ff06f ∷ [];
       ram = [];
     }) 41
-unfolding service_number defined_at_start lexed
+unfolding service_number defined_at_start lexed assembled
 one_semaphore = refl
 
 defined_twice : text_assembled (codes ".code\ngo: nop\ngo: nop\n") ≡ Refuses 3 DefinedTwice
-unfolding service_number defined_at_start lexed
+unfolding service_number defined_at_start lexed assembled
 defined_twice = refl
 
 out_of_reach : text_assembled (codes ".code\ngo: beq x0, x0, far\n.space 4096\nfar: nop\n") ≡ Refuses 2 TargetRange
-unfolding service_number defined_at_start lexed
+unfolding service_number defined_at_start lexed assembled
 out_of_reach = refl

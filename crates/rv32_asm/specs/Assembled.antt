@@ -1,33 +1,31 @@
--- What a text is assembled to.
-use Rattle.std.specs.Prelude.{◌≡◌, ℕ, List, [], ◌∷◌, ◌++◌, map, slice_index, Option, Some, None}
+-- What a text is assembled to: what its lines give, in order, each looked at with all names and all places known; or the
+-- refusal of the first line that has a cause.
+use Rattle.std.specs.Prelude.{ℕ, List, [], ◌∷◌, ◌++◌, length, map, slice_index, Bool, true, false, Option, Some, if◌then◌else◌}
+use Rattle.std.specs.List.{filter_map, flat_map, range_with_len, sum_by}
+use Rattle.std.specs.Option.{option_map}
 use Rattle.text_lex.specs.declared.Token.{Token}
 use Rattle.app_image.specs.Raw.{RawRecord}
 use Rattle.app_image.specs.declared.records.TaskDef.{TaskDef}
+use Rattle.app_image.specs.declared.records.ObjDef.{ObjDef}
 use Rattle.app_image.specs.declared.records.VectorDef.{VectorDef}
-use Rattle.app_image.specs.declared.settings.ConfigKey.{ConfigKey}
+use Rattle.app_image.specs.declared.settings.ConfigLine.{ConfigLine}
 use Rattle.rv32_asm.specs.Pieces.{spelling}
-use Rattle.rv32_asm.specs.declared.pieces.Operand.{Operand}
 use Rattle.rv32_asm.specs.Lines.{Reading, read}
-use Rattle.rv32_asm.specs.Names.{Names, names_of, counted, no_counts}
-use Rattle.rv32_asm.specs.Operands.{value_of, no_place}
-use Rattle.rv32_asm.specs.Places.{place_after, places_of}
+use Rattle.rv32_asm.specs.Before.{line_at, counts_before, section_before}
+use Rattle.rv32_asm.specs.Names.{Names, defined_at_start, defines, first_of}
+use Rattle.rv32_asm.specs.Operands.{value_of}
+use Rattle.rv32_asm.specs.Places.{bytes_of}
 use Rattle.rv32_asm.specs.Instructions.{words}
 use Rattle.rv32_asm.specs.Refusal.{cause_of}
+use Rattle.rv32_asm.specs.Assembly.{Assembly, Gives, Refuses}
+use Rattle.rv32_asm.specs.declared.pieces.Operand.{Operand}
 use Rattle.rv32_asm.specs.declared.mnemonics.Section.{Section}
-use Rattle.rv32_asm.specs.declared.mnemonics.Section.TheVariants.{Nowhere, Code, Ram}
+use Rattle.rv32_asm.specs.declared.mnemonics.Section.TheVariants.{Code, Ram}
 use Rattle.rv32_asm.specs.declared.statements.Statement.{Statement}
 use Rattle.rv32_asm.specs.declared.statements.Statement.TheVariants.{Task, Object, Vector, Setting}
 use Rattle.rv32_asm.specs.declared.statements.Line.{Line}
-use Rattle.rv32_asm.specs.declared.places.Counts.{Counts}
 use Rattle.rv32_asm.specs.declared.places.Place.{Place}
 use Rattle.rv32_asm.specs.declared.causes.AsmCause.{AsmCause}
-use Rattle.rv32_asm.specs.declared.causes.AsmError.{AsmError}
-use Rattle.rv32_asm.specs.declared.causes.AsmError.TheVariants.{NoMemory, At}
-
--- what a text is assembled to: an image and where the tokens behind `.inject` begin, or the line and the cause of its refusal
-pub data Assembly : Type 0 where
-  Gives : RawRecord → ℕ → Assembly
-  Refuses : ℕ → AsmCause → Assembly
 
 -- the record that a statement on a line declares, where its values are these words
 abbrev pub task_of : List ℕ → ℕ → List ℕ → TaskDef
@@ -36,54 +34,99 @@ task_of name line vs = record { name = name; entry = slice_index vs 0; prio = sl
 abbrev pub vector_of : ℕ → List ℕ → VectorDef
 vector_of line vs = record { number = slice_index vs 0; level = slice_index vs 1; entry = slice_index vs 2; sp = slice_index vs 3; line = line }
 
--- words more in a section
-abbrev pub with_words : Section → List ℕ → RawRecord → RawRecord
-with_words Nowhere ws raw = raw
-with_words Code ws raw = record raw { code = raw.code ++ ws }
-with_words Ram ws raw = record raw { ram = raw.ram ++ ws }
+-- the numbers of some lines
+abbrev pub numbers : List Line → List ℕ
+numbers lines = range_with_len 0 (length lines)
 
--- what a setting adds
-abbrev pub with_setting : ℕ → Option ConfigKey → ℕ → RawRecord → RawRecord
-with_setting line None value raw = raw
-with_setting line (Some key) value raw = record raw { config = raw.config ++ record { key = key; value = value; line = line } ∷ [] }
+-- the names of a text: what its lines define, and before them the names of the services; a name keeps its first definition
+abbrev pub all_names : List ℕ → List Line → Names
+all_names text lines = first_of (defined_at_start ++ flat_map (λ k. defines text (counts_before lines k) (line_at lines k)) (numbers lines))
 
+-- one of the two sections, and whether a line stands in it
+abbrev pub is_in : Section → Section → Bool
+is_in Code Code = true
+is_in Ram Ram = true
+is_in _ _ = false
+
+module _ (text : List ℕ) (tokens : List Token) (names : Names) (lines : List Line) where
+  -- the bytes that a line gives
+  abbrev pub bytes_at : ℕ → ℕ
+  bytes_at k = bytes_of text tokens names (counts_before lines k) (section_before lines k) (line_at lines k)
+
+  -- the bytes that it gives to a section
+  abbrev pub bytes_to : Section → ℕ → ℕ
+  bytes_to section k = if is_in section (section_before lines k) then bytes_at k else 0
+
+  -- where a line begins: behind the bytes that the lines before it give to each section
+  abbrev pub place_before : ℕ → Place
+  place_before k = record { section = section_before lines k; code = sum_by (bytes_to Code) (range_with_len 0 k); ram = sum_by (bytes_to Ram) (range_with_len 0 k) }
+
+  -- where all lines begin
+  abbrev pub all_places : List Place
+  all_places = map place_before (numbers lines)
+
+-- what a statement on a line gives, where its operands are these words
 module _ (text : List ℕ) (tokens : List Token) (names : Names) (places : List Place) where
   -- the words of some operands
   abbrev pub word_values : List Operand → List ℕ
   word_values os = map (value_of text names places) os
 
-  -- the image with what a statement gives, where its line has a number and begins here
-  abbrev pub with_statement : ℕ → Place → Statement → RawRecord → RawRecord
-  with_statement line p (Task n values) raw = record raw { tasks = raw.tasks ++ task_of (spelling text n) line (word_values values) ∷ [] }
-  with_statement line p (Object n kind values) raw = record raw { objects = raw.objects ++ record { name = spelling text n; kind = kind; f = word_values values; line = line } ∷ [] }
-  with_statement line p (Vector values) raw = record raw { vectors = raw.vectors ++ vector_of line (word_values values) ∷ [] }
-  with_statement line p (Setting key v) raw = with_setting line key (value_of text names places v) raw
-  with_statement line p statement raw = with_words p.section (words text tokens names places p statement) raw
+  abbrev pub tasks_given : ℕ → Statement → List TaskDef
+  tasks_given line (Task n values) = task_of (spelling text n) line (word_values values) ∷ []
+  tasks_given line _ = []
 
-  -- the image with what the lines give in order, or the first line with a cause
-  abbrev pub assembled_from : Counts → Place → RawRecord → ℕ → List Line → Assembly
-  assembled_from c p raw used [] = Gives raw used
-  assembled_from c p raw used (l ∷ ls) = elim (cause_of text tokens names places c p l) [
-    | Some cause ↦ Refuses l.number cause
-    | None ↦ assembled_from (counted l.statement c) (place_after text tokens names c p l) (with_statement l.number p l.statement raw) used ls
-  ]
+  abbrev pub objects_given : ℕ → Statement → List ObjDef
+  objects_given line (Object n kind values) = record { name = spelling text n; kind = kind; f = word_values values; line = line } ∷ []
+  objects_given line _ = []
 
--- an image of nothing
-abbrev pub empty_image : RawRecord
-empty_image = record { tasks = []; objects = []; vectors = []; config = []; code = []; ram = [] }
+  abbrev pub vectors_given : ℕ → Statement → List VectorDef
+  vectors_given line (Vector values) = vector_of line (word_values values) ∷ []
+  vectors_given line _ = []
 
--- what lines are assembled to
-abbrev pub assembled_lines : List ℕ → List Token → Reading → Assembly
-assembled_lines text tokens reading =
-    let names = names_of text reading.lines in
-    let places = places_of text tokens names reading.lines in
-    assembled_from text tokens names places no_counts no_place empty_image reading.used reading.lines
+  abbrev pub settings_given : ℕ → Statement → List ConfigLine
+  settings_given line (Setting (Some key) v) = record { key = key; value = value_of text names places v; line = line } ∷ []
+  settings_given line _ = []
+
+  -- the words that a line gives to a section, where it begins here
+  abbrev pub words_given : Section → Place → Statement → List ℕ
+  words_given section p statement = if is_in section p.section then words text tokens names places p statement else []
+
+module _ (text : List ℕ) (tokens : List Token) (names : Names) (lines : List Line) where
+  -- what all lines up to a number give, of a sort
+  abbrev pub gathered : {T : Type 0} → (Line → Place → List T) → ℕ → List T
+  gathered gives n = flat_map (λ k. gives (line_at lines k) (place_before text tokens names lines k)) (range_with_len 0 n)
+
+  -- the image that the first lines give
+  abbrev pub image_of_first : ℕ → RawRecord
+  image_of_first n =
+      let places = all_places text tokens names lines in
+      record {
+        tasks = gathered (λ l p. tasks_given text tokens names places l.number l.statement) n;
+        objects = gathered (λ l p. objects_given text tokens names places l.number l.statement) n;
+        vectors = gathered (λ l p. vectors_given text tokens names places l.number l.statement) n;
+        config = gathered (λ l p. settings_given text tokens names places l.number l.statement) n;
+        code = gathered (λ l p. words_given text tokens names places Code p l.statement) n;
+        ram = gathered (λ l p. words_given text tokens names places Ram p l.statement) n;
+      }
+
+  -- the refusal of a line: its number in the text, and the least cause that it has, if it has one
+  abbrev pub refusal_at : ℕ → Option (ℕ × AsmCause)
+  refusal_at k =
+      option_map (λ cause. ((line_at lines k).number, cause))
+      (cause_of text tokens names (all_places text tokens names lines) (counts_before lines k) (place_before text tokens names lines k) (line_at lines k))
+
+-- the image, unless some line is refused; the first one decides
+abbrev pub unless_refused : List (ℕ × AsmCause) → RawRecord → ℕ → Assembly
+unless_refused [] image used = Gives image used
+unless_refused (refusal ∷ refusals) image used = Refuses refusal.0 refusal.1
+
+-- what lines are assembled to, behind which this is the first token that is not used
+abbrev pub lines_assembled : List ℕ → List Token → Reading → Assembly
+lines_assembled text tokens reading =
+    let lines = reading.lines in
+    let names = all_names text lines in
+    unless_refused (filter_map (refusal_at text tokens names lines) (numbers lines)) (image_of_first text tokens names lines (length lines)) reading.used
 
 -- what a text and its tokens are assembled to
-abbrev pub assembled : List ℕ → List Token → Assembly
-assembled text tokens = assembled_lines text tokens (read text tokens)
-
--- the error tells the refusal of the text, and want of memory tells nothing of it
-abbrev pub IsFault : AsmError → Assembly → Type 0
-IsFault NoMemory assembly = Unit {0}
-IsFault (At line cause) assembly = assembly ≡ Refuses line cause
+unfoldable pub assembled : List ℕ → List Token → Assembly
+assembled text tokens = lines_assembled text tokens (read text tokens)

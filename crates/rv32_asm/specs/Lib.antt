@@ -1,4 +1,5 @@
 pub mod Tables
+pub mod Initials
 pub mod Pieces
 pub mod Mnemonics
 pub mod Registers
@@ -11,6 +12,10 @@ pub mod Causes
 pub mod Places
 pub mod Refusal
 pub mod Instructions
+pub mod Assembly
+pub mod Before
 pub mod Assembled
+pub mod Steps
+pub mod Calm
 pub mod NamesView
 pub mod DraftView

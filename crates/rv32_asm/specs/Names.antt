@@ -1,5 +1,5 @@
 -- The names of a text and what they stand for.
-use Rattle.std.specs.Prelude.{ℕ, zero, suc, ℤ, pos, ◌+◌, List, [], ◌∷◌, ◌++◌, Option, Some, None}
+use Rattle.std.specs.Prelude.{ℕ, zero, suc, ℤ, pos, List, [], ◌∷◌, ◌++◌, Option, Some, None}
 use Rattle.std.specs.Option.{option_map}
 use Rattle.std.specs.Map.{lookup}
 use Rattle.std.specs.Str.{bytes_eq}
@@ -7,23 +7,12 @@ use Rattle.rv32_asm.specs.Pieces.{spelling}
 use Rattle.kern_base.specs.Services.{service_of, service_name}
 use Rattle.rv32_asm.specs.declared.pieces.Span.{Span}
 use Rattle.rv32_asm.specs.declared.statements.Statement.{Statement}
-use Rattle.rv32_asm.specs.declared.statements.Statement.TheVariants.{Equ, Task, Object, Vector}
+use Rattle.rv32_asm.specs.declared.statements.Statement.TheVariants.{Equ, Task, Object}
 use Rattle.rv32_asm.specs.declared.statements.Line.{Line}
 use Rattle.rv32_asm.specs.declared.places.Counts.{Counts}
 use Rattle.rv32_asm.specs.declared.places.Meaning.{Meaning}
 use Rattle.rv32_asm.specs.declared.places.Meaning.TheVariants.{Label, Constant}
 use Rattle.rv32_asm.specs.declared.places.Definition.{Definition}
-
--- nothing stands before the first line
-abbrev pub no_counts : Counts
-no_counts = record { lines = 0; tasks = 0; objects = 0; vectors = 0 }
-
--- what stands before the line behind this statement's
-abbrev pub counted : Statement → Counts → Counts
-counted (Task n values) c = record c { lines = c.lines + 1; tasks = c.tasks + 1 }
-counted (Object n kind values) c = record c { lines = c.lines + 1; objects = c.objects + 1 }
-counted (Vector values) c = record c { lines = c.lines + 1; vectors = c.vectors + 1 }
-counted _ c = record c { lines = c.lines + 1 }
 
 -- names with their definitions, in order
 abbrev pub Defined : Type 0
@@ -65,11 +54,6 @@ statement_defines text c statement = constant_defines text c (constant_defined c
 abbrev pub defines : List ℕ → Counts → Line → Defined
 defines text c l = label_defines text c l.label ++ statement_defines text c l.statement
 
--- what the lines define
-abbrev pub all_defined : List ℕ → Counts → List Line → Defined
-all_defined text c [] = []
-all_defined text c (l ∷ ls) = defines text c l ++ all_defined text (counted l.statement c) ls
-
 -- the first definition of each name
 abbrev pub Names : Type 0
 Names = List ℕ → Option Definition
@@ -77,10 +61,6 @@ Names = List ℕ → Option Definition
 -- the first of some definitions of a name
 abbrev pub first_of : Defined → Names
 first_of defined name = lookup (bytes_eq name) defined
-
--- a name keeps its first definition in the whole text
-abbrev pub names_of : List ℕ → List Line → Names
-names_of text lines = first_of (defined_at_start ++ all_defined text no_counts lines)
 
 -- what a name stands for, if it stands for something
 abbrev pub meaning : Names → List ℕ → Option Meaning

@@ -5,11 +5,14 @@ ghost use Rattle.std.specs.List.{list_any};
 ghost use Rattle.text_lex.specs.Tokens.{lexed, Tokens};
 ghost use Rattle.app_image.specs.Raw.{IsMade};
 ghost use Rattle.rv32_asm.specs.NamesView.{known_in};
-ghost use Rattle.rv32_asm.specs.Names.{no_counts, names_of as names_for};
+ghost use Rattle.rv32_asm.specs.Steps.{no_counts, names_of as names_for};
 ghost use Rattle.rv32_asm.specs.Operands.{no_place, registers_in, value_of as value_for};
 ghost use Rattle.rv32_asm.specs.Causes.{is_register, has_constant_out_of_range, has_far_target, has_long_name};
-ghost use Rattle.rv32_asm.specs.Assembled as assembled;
-ghost use Rattle.rv32_asm.specs.Assembled.{assembled, assembled_from, assembled_lines, empty_image, with_statement, with_words, Gives, IsFault};
+ghost use Rattle.rv32_asm.specs.Assembled as given;
+ghost use Rattle.rv32_asm.specs.Assembled.{assembled};
+ghost use Rattle.rv32_asm.specs.Steps.{assembled_by_steps, assembled_from, assembled_lines, empty_image, with_statement, with_words};
+ghost use Rattle.rv32_asm.specs.Assembly.{Gives, IsFault};
+ghost use Rattle.rv32_asm.specs.Calm.{calm_lines};
 ghost use Rattle.rv32_asm.specs.DraftView.{raw_of};
 
 use crate::AsmError;
@@ -21,7 +24,7 @@ use crate::names::{Names, counted, names_of};
 use crate::operands::value_of;
 use crate::pieces::{Operand, spelling};
 use crate::places::{NO_COUNTS, NO_PLACE, Place};
-use crate::placing::{place_after, places_of};
+use crate::placing::{place_behind, places_of, size_of};
 use crate::refusal::cause_of;
 use crate::statements::{Line, Statement};
 use app_image::{ConfigLine, Name, ObjDef, RawImage, TaskDef, VectorDef};
@@ -57,7 +60,7 @@ fn five_words(text: &[u8], names: &Names, places: &[Place], values: &[Operand; 5
 fn task_of(name: &[u8], values: [u32; 5], line: u32) -> TaskDef
     requires some { 1 ≤ length name.now }
     requires short { length name.now ≤ 16 }
-    ensures { result ≡ assembled.task_of name.now line values }
+    ensures { result ≡ given.task_of name.now line values }
 {
     let [entry, prio, quanta, qsize, sp] = values;
     TaskDef {
@@ -73,7 +76,7 @@ fn task_of(name: &[u8], values: [u32; 5], line: u32) -> TaskDef
 
 // The vector on a line.
 fn vector_of(values: [u32; 4], line: u32) -> VectorDef
-    ensures { result ≡ assembled.vector_of line values }
+    ensures { result ≡ given.vector_of line values }
 {
     let [number, level, entry, sp] = values;
     VectorDef {
@@ -151,17 +154,19 @@ fn add_scratch(draft: &mut Draft, section: Section) -> Result<(), AllocError>
     }
 }
 
-// What lines give, or the first line with a cause.
+// What lines give, or the first line with a cause. The first `calm` lines have no early cause.
 fn assemble_lines(
     alloc: Global,
     text: &[u8],
     tokens: &[Token],
     names: &Names,
     places: &[Place],
+    calm: usize,
     lines: &[Line],
 ) -> Result<RawImage, AsmError>
     requires few_tokens { length tokens.now < 2 ^ 32 }
     requires few_lines { length lines.now < 2 ^ 62 }
+    requires calm { calm ≡ calm_lines text.now tokens.now (known_in names.now) lines.now }
     ensures image { IfOk result (λ raw. (used : ℕ) → assembled_from text.now tokens.now (known_in names.now) places.now no_counts no_place empty_image used lines.now ≡ Gives raw used) }
     ensures fault { IfErr result (λ error. (used : ℕ) → IsFault error (assembled_from text.now tokens.now (known_in names.now) places.now no_counts no_place empty_image used lines.now)) }
 {
@@ -169,13 +174,15 @@ fn assemble_lines(
     let mut counts = NO_COUNTS;
     let mut place = NO_PLACE;
     for line in lines {
-        if let Some(cause) = cause_of(text, tokens, names, places, counts, place, line) {
+        let is_calm = counts.lines < calm;
+        if let Some(cause) = cause_of(text, tokens, names, places, counts, place, line, is_calm) {
             return Err(AsmError::At(line.number, cause));
         }
         let Ok(()) = add_line(&mut draft, text, tokens, names, places, place, line) else {
             return Err(AsmError::NoMemory);
         };
-        let Some(after) = place_after(text, tokens, names, counts, place, line) else {
+        let size = size_of(text, tokens, names, &line.statement);
+        let Some(after) = place_behind(place, size, &line.statement) else {
             return Err(AsmError::NoMemory);
         };
         place = after;
@@ -199,17 +206,25 @@ fn assemble_all(
     let Ok(names) = names_of(alloc, text, lines) else {
         return Err(AsmError::NoMemory);
     };
-    let Ok(places) = places_of(alloc, text, tokens, &names, lines) else {
+    let Ok(placed) = places_of(alloc, text, tokens, &names, lines) else {
         return Err(AsmError::NoMemory);
     };
-    assemble_lines(alloc, text, tokens, &names, &places, lines)
+    assemble_lines(
+        alloc,
+        text,
+        tokens,
+        &names,
+        &placed.places,
+        placed.calm,
+        lines,
+    )
 }
 
 // What a text gives whose tokens are few.
 fn assemble_few(alloc: Global, text: &[u8], tokens: &[Token]) -> Result<(RawImage, usize), AsmError>
     requires { length tokens.now < 2 ^ 32 }
-    ensures image { IfOk result (λ given. assembled text.now tokens.now ≡ Gives given.0 given.1) }
-    ensures fault { IfErr result (λ error. IsFault error (assembled text.now tokens.now)) }
+    ensures image { IfOk result (λ given. assembled_by_steps text.now tokens.now ≡ Gives given.0 given.1) }
+    ensures fault { IfErr result (λ error. IsFault error (assembled_by_steps text.now tokens.now)) }
 {
     let Ok(reading) = read(alloc, text, tokens) else {
         return Err(AsmError::NoMemory);

@@ -464,40 +464,6 @@ pub fn has_early(
     }
 }
 
-static EARLY_CAUSES: [AsmCause; 11] = [
-    AsmCause::UnknownStatement,
-    AsmCause::WrongForm,
-    AsmCause::NoRegister,
-    AsmCause::ConstantRange,
-    AsmCause::DefinedTwice,
-    AsmCause::Undefined,
-    AsmCause::WrongKind,
-    AsmCause::WrongSection,
-    AsmCause::LongName,
-    AsmCause::UnknownSetting,
-    AsmCause::TooMany,
-];
-
-// Whether a line has one of some causes.
-fn has_some_early(
-    text: &[u8],
-    tokens: &[Token],
-    names: &Names,
-    counts: Counts,
-    section: Section,
-    line: &Line,
-    wanted: &[AsmCause],
-) -> bool
-    ensures { result ≡ list_any (causes.has_early text.now tokens.now (known_in names.now) counts section line.now) wanted.now }
-{
-    for cause in wanted {
-        if has_early(text, tokens, names, counts, section, line, *cause) {
-            return true;
-        }
-    }
-    false
-}
-
 /// Whether a line has a cause with which it gives no bytes.
 pub fn is_early(
     text: &[u8],
@@ -509,5 +475,16 @@ pub fn is_early(
 ) -> bool
     ensures { result ≡ causes.is_early text.now tokens.now (known_in names.now) counts section line.now }
 {
-    has_some_early(text, tokens, names, counts, section, line, &EARLY_CAUSES)
+    let statement = &line.statement;
+    is_unknown(statement)
+        || is_malformed(statement)
+        || has_no_register(statement)
+        || has_constant_out_of_range(text, names, statement)
+        || is_defined_twice(text, names, counts, line)
+        || has_undefined(text, tokens, names, statement)
+        || has_wrong_kind(text, names, statement)
+        || is_misplaced(section, line.label, statement)
+        || has_long_name(text, statement)
+        || has_unknown_setting(statement)
+        || is_too_many(counts, statement)
 }

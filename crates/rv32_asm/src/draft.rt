@@ -19,7 +19,7 @@ pub struct Draft {
 
 impl Draft {
     ghost use Rattle.rv32_asm.specs.DraftView.{raw_of};
-    ghost use Rattle.rv32_asm.specs.Assembled.{empty_image};
+    ghost use Rattle.rv32_asm.specs.Steps.{empty_image};
 
     pub fn new(alloc: Global) -> Draft
         ensures { raw_of result ≡ empty_image }

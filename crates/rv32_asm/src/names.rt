@@ -2,7 +2,8 @@
 
 ghost use Rattle.std.specs.Prelude.{◌≡◌, ◌<◌, ◌^◌, ℕ, List, length, OnOk, IfOk};
 ghost use Rattle.std.specs.Option.{option_or};
-ghost use Rattle.rv32_asm.specs.Names.{counted, constant_defined, defined_at_start, first_of, label_defines, names_of, services_defined, statement_defines, meaning as meaning_of};
+ghost use Rattle.rv32_asm.specs.Names.{constant_defined, defined_at_start, first_of, label_defines, services_defined, statement_defines, meaning as meaning_of};
+ghost use Rattle.rv32_asm.specs.Steps.{counted, names_of};
 ghost use Rattle.rv32_asm.specs.Pieces.{spelling};
 ghost use Rattle.rv32_asm.specs.NamesView.{known_in, first_or};
 

@@ -1,9 +1,11 @@
 // Where lines begin.
 
-ghost use Rattle.std.specs.Prelude.{◌≡◌, ◌<◌, ◌≤◌, ◌^◌, length, IfSome, IfOk};
+ghost use Rattle.std.specs.Prelude.{◌≡◌, ◌+◌, ◌<◌, ◌≤◌, ◌^◌, length, IfSome, IfOk, if◌then◌else◌};
 ghost use Rattle.rv32_asm.specs.NamesView.{known_in};
 ghost use Rattle.rv32_asm.specs.Operands.{operands_among};
 ghost use Rattle.rv32_asm.specs.Places as places;
+ghost use Rattle.rv32_asm.specs.Steps as steps;
+ghost use Rattle.rv32_asm.specs.Calm as spec;
 
 use crate::checks::{is_early, is_instruction};
 use crate::mnemonics::Section;
@@ -47,7 +49,8 @@ fn load_size(constant: Option<i64>) -> u64
     }
 }
 
-fn size_of(text: &[u8], tokens: &[Token], names: &Names, statement: &Statement) -> u64
+/// The bytes that a statement gives on a line that has no early cause.
+pub fn size_of(text: &[u8], tokens: &[Token], names: &Names, statement: &Statement) -> u64
     requires { length tokens.now < 2 ^ 32 }
     ensures { result ≡ places.size_of text.now tokens.now (known_in names.now) statement.now }
 {
@@ -57,6 +60,24 @@ fn size_of(text: &[u8], tokens: &[Token], names: &Names, statement: &Statement) 
         Statement::LoadConstant(_, constant) => load_size(constant_of(text, names, *constant)),
         Statement::LoadValue(_, _) | Statement::CallService(_) => 8,
         _ => { if is_instruction(statement) { 4 } else { 0 } }
+    }
+}
+
+// The bytes that a line gives of which it is known whether it has an early cause.
+fn bytes_unless(
+    early: bool,
+    text: &[u8],
+    tokens: &[Token],
+    names: &Names,
+    statement: &Statement,
+) -> u64
+    requires { length tokens.now < 2 ^ 32 }
+    ensures { result ≡ (if early then 0 else places.size_of text.now tokens.now (known_in names.now) statement.now) }
+{
+    if early {
+        0
+    } else {
+        size_of(text, tokens, names, statement)
     }
 }
 
@@ -72,16 +93,13 @@ pub fn bytes_of(
     requires { length tokens.now < 2 ^ 32 }
     ensures { result ≡ places.bytes_of text.now tokens.now (known_in names.now) counts section line.now }
 {
-    if is_early(text, tokens, names, counts, section, line) {
-        0
-    } else {
-        size_of(text, tokens, names, &line.statement)
-    }
+    let early = is_early(text, tokens, names, counts, section, line);
+    bytes_unless(early, text, tokens, names, &line.statement)
 }
 
 // So many bytes more in a section, or None past 2^64.
 fn filled(section: Section, size: u64, place: Place) -> Option<Place>
-    ensures { IfSome result (λ p. p ≡ places.filled section size place) }
+    ensures { IfSome result (λ p. p ≡ steps.filled section size place) }
 {
     let mut after = place;
     match section {
@@ -93,7 +111,7 @@ fn filled(section: Section, size: u64, place: Place) -> Option<Place>
 }
 
 fn turned(statement: &Statement, place: Place) -> Place
-    ensures { result ≡ places.turned statement.now place }
+    ensures { result ≡ steps.turned statement.now place }
 {
     match statement {
         Statement::Section(section) => Place {
@@ -105,21 +123,28 @@ fn turned(statement: &Statement, place: Place) -> Place
     }
 }
 
-/// Where the line behind this one begins, or None past 2^64.
-pub fn place_after(
-    text: &[u8],
-    tokens: &[Token],
-    names: &Names,
-    counts: Counts,
-    place: Place,
-    line: &Line,
-) -> Option<Place>
-    requires { length tokens.now < 2 ^ 32 }
-    ensures { IfSome result (λ p. p ≡ places.place_after text.now tokens.now (known_in names.now) counts place line.now) }
+/// Where the line behind one of so many bytes begins, or None past 2^64.
+pub fn place_behind(place: Place, size: u64, statement: &Statement) -> Option<Place>
+    ensures { IfSome result (λ p. p ≡ steps.turned statement.now (steps.filled place.section size place)) }
 {
-    let size = bytes_of(text, tokens, names, counts, place.section, line);
     let after = filled(place.section, size, place)?;
-    Some(turned(&line.statement, after))
+    Some(turned(statement, after))
+}
+
+// How many lines stand before the first with an early cause, with one line more.
+fn calm_after(calm: usize, is_calm: bool) -> usize
+    requires { calm < 2 ^ 62 }
+    ensures { result ≡ calm + (if is_calm then 1 else 0) }
+{
+    if is_calm { calm + 1 } else { calm }
+}
+
+/// Where the lines of a text begin.
+#[derive(Drop)]
+pub struct Placed {
+    pub places: Vec<Place>,
+    /// How many lines stand before the first that has an early cause.
+    pub calm: usize,
 }
 
 /// Where the lines of a text begin. No memory has a place past 2^64.
@@ -129,21 +154,28 @@ pub fn places_of(
     tokens: &[Token],
     names: &Names,
     lines: &[Line],
-) -> Result<Vec<Place>, AllocError>
+) -> Result<Placed, AllocError>
     requires few_tokens { length tokens.now < 2 ^ 32 }
     requires few_lines { length lines.now < 2 ^ 62 }
-    ensures { IfOk result (λ found. found.items ≡ places.places_of text.now tokens.now (known_in names.now) lines.now) }
+    ensures places { IfOk result (λ found. found.places.items ≡ steps.places_of text.now tokens.now (known_in names.now) lines.now) }
+    ensures calm { IfOk result (λ found. found.calm ≡ spec.calm_lines text.now tokens.now (known_in names.now) lines.now) }
 {
-    let mut found = Vec::new(alloc);
+    let mut places = Vec::new(alloc);
     let mut counts = NO_COUNTS;
     let mut place = NO_PLACE;
+    let mut calm: usize = 0;
+    let mut is_calm = true;
     for line in lines {
-        found.push(place)?;
-        let Some(after) = place_after(text, tokens, names, counts, place, line) else {
+        places.push(place)?;
+        let early = is_early(text, tokens, names, counts, place.section, line);
+        is_calm &= !early;
+        calm = calm_after(calm, is_calm);
+        let size = bytes_unless(early, text, tokens, names, &line.statement);
+        let Some(after) = place_behind(place, size, &line.statement) else {
             return Err(AllocError);
         };
         place = after;
         counts = counted(&line.statement, counts);
     }
-    Ok(found)
+    Ok(Placed { places, calm })
 }

@@ -1,17 +1,19 @@
 // The cause that a line is refused with.
 
-ghost use Rattle.std.specs.Prelude.{◌≡◌, ◌<◌, ◌^◌, length};
+ghost use Rattle.std.specs.Prelude.{◌≡◌, ◌<◌, ◌^◌, length, true, false};
 ghost use Rattle.std.specs.List.{find};
 ghost use Rattle.rv32_asm.specs.NamesView.{known_in};
+ghost use Rattle.rv32_asm.specs.Causes.{is_early};
 ghost use Rattle.rv32_asm.specs.Refusal as refusal;
+ghost use Rattle.rv32_asm.specs.Calm as spec;
 
 use crate::causes::AsmCause;
 use crate::checks::{has_early, has_far_target};
 use crate::mnemonics::Section;
 use crate::names::Names;
 use crate::places::{Counts, Place};
-use crate::placing::bytes_of;
-use crate::statements::Line;
+use crate::placing::{bytes_of, size_of};
+use crate::statements::{Line, Statement};
 use text_lex::Token;
 
 const CODE_BYTES: u64 = 4 * 16_384;
@@ -106,7 +108,34 @@ fn first_cause(context: &LineContext, wanted: &[AsmCause]) -> Option<AsmCause>
     None
 }
 
-/// The cause that a line is refused with, if it has one.
+// The cause of a line that has no early one.
+fn late_cause(
+    text: &[u8],
+    tokens: &[Token],
+    names: &Names,
+    places: &[Place],
+    place: Place,
+    statement: &Statement,
+) -> Option<AsmCause>
+    requires { length tokens.now < 2 ^ 32 }
+    ensures { result ≡ spec.late_cause text.now tokens.now (known_in names.now) places.now place statement.now }
+{
+    if has_far_target(text, names, places, place, statement) {
+        return Some(AsmCause::TargetRange);
+    }
+    let size = size_of(text, tokens, names, statement);
+    if overfills_code(place, place.section, size) {
+        return Some(AsmCause::CodeFull);
+    }
+    if overfills_ram(place, place.section, size) {
+        return Some(AsmCause::RamFull);
+    }
+    None
+}
+
+/// The cause that a line is refused with, if it has one. Of a calm line it is known that it has no
+/// early cause.
+#[tactic(auto, using(crate::proofs::CalmLaws::late_is_cause))]
 pub fn cause_of(
     text: &[u8],
     tokens: &[Token],
@@ -115,10 +144,15 @@ pub fn cause_of(
     counts: Counts,
     place: Place,
     line: &Line,
+    calm: bool,
 ) -> Option<AsmCause>
-    requires { length tokens.now < 2 ^ 32 }
+    requires few { length tokens.now < 2 ^ 32 }
+    requires calm { calm ≡ true → is_early text.now tokens.now (known_in names.now) counts place.section line.now ≡ false }
     ensures { result ≡ refusal.cause_of text.now tokens.now (known_in names.now) places.now counts place line.now }
 {
+    if calm {
+        return late_cause(text, tokens, names, places, place, &line.statement);
+    }
     let context = LineContext {
         text,
         tokens,

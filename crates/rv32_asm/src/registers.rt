@@ -1,11 +1,59 @@
 // The names of the registers (RISC-V ABI, "Register Convention").
 
 ghost use Rattle.std.specs.Prelude.{◌≡◌};
-ghost use Rattle.rv32_asm.specs.Registers.{register_number};
+ghost use Rattle.rv32_asm.specs.Tables.{entry};
+ghost use Rattle.rv32_asm.specs.Initials.{rows_by};
+ghost use Rattle.rv32_asm.specs.Registers.{register_number, registers};
 
 use crate::tables::entry;
 
-static REGISTERS: [(&[u8], u8); 65] = [
+// The table of the registers, in parts by the first byte.
+
+static A_REGISTERS: [(&[u8], u8); 8] = [
+    (b"a0", 10),
+    (b"a1", 11),
+    (b"a2", 12),
+    (b"a3", 13),
+    (b"a4", 14),
+    (b"a5", 15),
+    (b"a6", 16),
+    (b"a7", 17),
+];
+
+static F_REGISTERS: [(&[u8], u8); 1] = [(b"fp", 8)];
+
+static G_REGISTERS: [(&[u8], u8); 1] = [(b"gp", 3)];
+
+static R_REGISTERS: [(&[u8], u8); 1] = [(b"ra", 1)];
+
+static S_REGISTERS: [(&[u8], u8); 13] = [
+    (b"sp", 2),
+    (b"s0", 8),
+    (b"s1", 9),
+    (b"s2", 18),
+    (b"s3", 19),
+    (b"s4", 20),
+    (b"s5", 21),
+    (b"s6", 22),
+    (b"s7", 23),
+    (b"s8", 24),
+    (b"s9", 25),
+    (b"s10", 26),
+    (b"s11", 27),
+];
+
+static T_REGISTERS: [(&[u8], u8); 8] = [
+    (b"tp", 4),
+    (b"t0", 5),
+    (b"t1", 6),
+    (b"t2", 7),
+    (b"t3", 28),
+    (b"t4", 29),
+    (b"t5", 30),
+    (b"t6", 31),
+];
+
+static X_REGISTERS: [(&[u8], u8); 32] = [
     (b"x0", 0),
     (b"x1", 1),
     (b"x2", 2),
@@ -38,44 +86,33 @@ static REGISTERS: [(&[u8], u8); 65] = [
     (b"x29", 29),
     (b"x30", 30),
     (b"x31", 31),
-    (b"zero", 0),
-    (b"ra", 1),
-    (b"sp", 2),
-    (b"gp", 3),
-    (b"tp", 4),
-    (b"t0", 5),
-    (b"t1", 6),
-    (b"t2", 7),
-    (b"s0", 8),
-    (b"s1", 9),
-    (b"a0", 10),
-    (b"a1", 11),
-    (b"a2", 12),
-    (b"a3", 13),
-    (b"a4", 14),
-    (b"a5", 15),
-    (b"a6", 16),
-    (b"a7", 17),
-    (b"s2", 18),
-    (b"s3", 19),
-    (b"s4", 20),
-    (b"s5", 21),
-    (b"s6", 22),
-    (b"s7", 23),
-    (b"s8", 24),
-    (b"s9", 25),
-    (b"s10", 26),
-    (b"s11", 27),
-    (b"t3", 28),
-    (b"t4", 29),
-    (b"t5", 30),
-    (b"t6", 31),
-    (b"fp", 8),
 ];
+
+static Z_REGISTERS: [(&[u8], u8); 1] = [(b"zero", 0)];
+
+// The entry of a name that begins with a byte.
+fn register_from(first: u8, name: &[u8]) -> Option<u8>
+    ensures { result ≡ entry name.now (rows_by first registers) }
+{
+    match first {
+        b'a' => entry(name, &A_REGISTERS),
+        b'f' => entry(name, &F_REGISTERS),
+        b'g' => entry(name, &G_REGISTERS),
+        b'r' => entry(name, &R_REGISTERS),
+        b's' => entry(name, &S_REGISTERS),
+        b't' => entry(name, &T_REGISTERS),
+        b'x' => entry(name, &X_REGISTERS),
+        b'z' => entry(name, &Z_REGISTERS),
+        _ => None,
+    }
+}
 
 /// The number of a register, 0 to 31, or None where a name is none.
 pub fn register_number(name: &[u8]) -> Option<u8>
     ensures { result ≡ register_number name.now }
 {
-    entry(name, &REGISTERS)
+    match name {
+        [] => None,
+        [first, ..] => register_from(*first, name),
+    }
 }

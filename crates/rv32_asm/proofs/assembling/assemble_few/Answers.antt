@@ -1,6 +1,7 @@
 use Rattle.std.proofs.Common.{◌≡◌, List, ap, sym, ◌∙◌, subst}
 use Rattle.rv32_asm.specs.Lines.{Reading, read}
-use Rattle.rv32_asm.specs.Assembled.{assembled_lines, IsFault}
+use Rattle.rv32_asm.specs.Steps.{assembled_lines}
+use Rattle.rv32_asm.specs.Assembly.{IsFault}
 use Rattle.rv32_asm.specs.declared.statements.Line.{Line}
 use Rattle.rv32_asm.proofs.assembling.assemble_few.Goals as goal
 

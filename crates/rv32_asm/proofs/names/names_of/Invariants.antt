@@ -1,6 +1,7 @@
 use Rattle.std.proofs.Common.{◌≡◌, ◌≤◌, ℕ, List, drop}
 use Rattle.std.specs.Option.{option_or}
-use Rattle.rv32_asm.specs.Names.{first_of, all_defined, names_of}
+use Rattle.rv32_asm.specs.Names.{first_of}
+use Rattle.rv32_asm.specs.Steps.{all_defined, names_of}
 use Rattle.rv32_asm.specs.NamesView.{known_in}
 use Rattle.rv32_asm.proofs.names.names_of.Given as goal
 

@@ -1,9 +1,13 @@
-use Rattle.std.proofs.Common.{◌≡◌, List, [], ◌∷◌, ◌++◌, ◌+◌, drop, get_or, append_assoc, ap, ◌∙◌}
-use Rattle.std.specs.Prelude.{None}
+use Rattle.std.proofs.Common.{◌≡◌, ◌≤◌, List, [], ◌∷◌, ◌++◌, ◌+◌, Bool, true, false, arith, drop, get_or, append_assoc, ap, sym, ◌∙◌}
+use Rattle.std.specs.Prelude.{None, not, ◌&&◌, if◌then◌else◌}
 use Rattle.std.proofs.lemmas.List.{drop_more}
 use Rattle.rv32_asm.specs.NamesView.{known_in}
-use Rattle.rv32_asm.specs.Places.{places_from, places_of, place_after}
-use Rattle.rv32_asm.specs.Names.{counted}
+use Rattle.rv32_asm.specs.Steps.{filled, turned, places_from, places_of, place_after}
+use Rattle.rv32_asm.specs.Places.{size_of}
+use Rattle.rv32_asm.specs.Causes.{is_early}
+use Rattle.rv32_asm.specs.Calm.{calm_from}
+use Rattle.rv32_asm.proofs.CalmLaws.{calm_kept}
+use Rattle.rv32_asm.specs.Steps.{counted}
 use Rattle.rv32_asm.specs.declared.statements.Line.{Line}
 use Rattle.rv32_asm.specs.declared.statements.Statement.TheVariants.{Nothing}
 use Rattle.rv32_asm.specs.declared.places.Place.{Place}
@@ -13,13 +17,29 @@ use Rattle.rv32_asm.proofs.placing.places_of.Goals as goal
 pushed : (xs new rest all : List Place) (p : Place) → new ≡ xs ++ p ∷ [] → xs ++ (p ∷ rest) ≡ all → new ++ rest ≡ all
 pushed xs new rest all p e h = ap (λ ys. ys ++ rest) e ∙ (append_assoc xs (p ∷ []) rest ∙ h)
 
+bit : (b : Bool) → (if b then 1 else 0) ≤ 1
+bit true = omega arith
+bit false = omega arith
+
 pub loop-line-preserved : goal.loop-line-preserved
 loop-line-preserved c =
-    let here : Line = get_or c.args.lines.now c.loop-line.line-index (record { number = 0; label = None; statement = Nothing }) in
-    let split : drop c.loop-line.line-index c.args.lines.now ≡ here ∷ drop (c.loop-line.line-index + 1) c.args.lines.now = drop_more c.args.lines.now c.loop-line.line-index (record { number = 0; label = None; statement = Nothing }) c.loop-line-test.true in
-    let bounds : CountsBelow (c.loop-line.line-index + 1) c.counted-counts.result = counted_below here.statement c.loop-line.counts c.counted-counts.result c.loop-line.line-index c.counted-counts.ensures c.loop-line.invariant.lines c.loop-line.invariant.tasks c.loop-line.invariant.objects c.loop-line.invariant.vectors in
+    let text = c.args.text.now in
+    let tokens = c.args.tokens.now in
+    let names = known_in c.args.names.now in
+    let lines = c.args.lines.now in
+    let i = c.loop-line.line-index in
+    let k = c.loop-line.counts in
+    let p = c.loop-line.place in
+    let here : Line = get_or lines i (record { number = 0; label = None; statement = Nothing }) in
+    let split : drop i lines ≡ here ∷ drop (i + 1) lines = drop_more lines i (record { number = 0; label = None; statement = Nothing }) c.loop-line-test.true in
+    let bounds : CountsBelow (i + 1) c.counted-counts.result = counted_below here.statement k c.counted-counts.result i c.counted-counts.ensures c.loop-line.invariant.lines c.loop-line.invariant.tasks c.loop-line.invariant.objects c.loop-line.invariant.vectors in
+    let after = c.in-Some.ensures ∙ ap (λ n. turned here.statement (filled p.section n p)) (c.bytes_unless-size.ensures ∙ ap (λ b. if b then 0 else size_of text tokens names here.statement) c.is_early-early.ensures) in
+    let rest = calm_from text tokens names (counted here.statement k) (place_after text tokens names k p here) (drop (i + 1) lines) in
+    let small : (if c.loop-line.is_calm && not (is_early text tokens names k p.section here) then 1 else 0) ≤ 1 = bit (c.loop-line.is_calm && not (is_early text tokens names k p.section here)) in
     record {
-      found = rw (c.counted-counts.ensures, c.in-Some.ensures) (pushed c.loop-line.found.items c.push.new.self.items (places_from c.args.text.now c.args.tokens.now (known_in c.args.names.now) (counted here.statement c.loop-line.counts) (place_after c.args.text.now c.args.tokens.now (known_in c.args.names.now) c.loop-line.counts c.loop-line.place here) (drop (c.loop-line.line-index + 1) c.args.lines.now)) (places_of c.args.text.now c.args.tokens.now (known_in c.args.names.now) c.args.lines.now) c.loop-line.place c.in_ok-push.ensures.items (rw split at c.loop-line.invariant.found));
+      found = rw (c.counted-counts.ensures, after) (pushed c.loop-line.places.items c.push.new.self.items (places_from text tokens names (counted here.statement k) (place_after text tokens names k p here) (drop (i + 1) lines)) (places_of text tokens names lines) p c.in_ok-push.ensures.items (rw split at c.loop-line.invariant.found));
+      calm = rw (c.counted-counts.ensures, after, c.calm_after-calm.ensures, c.is_early-early.ensures) (sym (calm_kept c.loop-line.is_calm (is_early text tokens names k p.section here) c.loop-line.calm rest) ∙ (rw split at c.loop-line.invariant.calm));
+      within = rw (c.calm_after-calm.ensures, c.is_early-early.ensures) (omega (arith, small, c.loop-line.invariant.within));
       lines = bounds.lines;
       tasks = bounds.tasks;
       objects = bounds.objects;
