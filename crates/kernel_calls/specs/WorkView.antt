@@ -7,8 +7,8 @@ work_of w =
     record {
       caller = w.caller.0;
       request = w.request;
+      interrupted = w.interrupted.0;
       compared = w.compared.0;
-      head = w.head.0;
       done = w.done;
       left = w.left;
     }

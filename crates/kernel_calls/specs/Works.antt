@@ -1,4 +1,4 @@
--- A whole step in hand: one call of a service, one micro-step at a time.
+-- A whole step in hand: one call of a service or one take of a post, one micro-step at a time.
 use Rattle.std.specs.Prelude.{ℕ, ◌≡◌, ◌⊎◌, ◌<◌, ◌≤◌, ◌+◌, ◌-◌}
 use Rattle.kern_base.specs.Checks.{IsPost}
 use Rattle.kern_base.specs.declared.requests.Request.{Request}
@@ -13,8 +13,8 @@ use Rattle.kern_model.specs.Valid.{MayCall}
 pub record WorkRecord : Type 0 where
   pub caller : ℕ
   pub request : Request
+  pub interrupted : ℕ
   pub compared : ℕ
-  pub head : ℕ
   pub done : ℕ
   pub left : ℕ
 
@@ -24,11 +24,11 @@ MayBegin x r k = MayCall x k ⊎ ((x ≡ 63) × IsPost r.service × (r ≡ post_
 
 -- what the whole step does in all
 abbrev pub effect_of : WorkRecord → Kernel → Effect
-effect_of w k = effect program_serves (call_of w.request w.caller w.compared w.head) k
+effect_of w k = effect program_serves (call_of w.request w.caller w.interrupted w.compared) k
 
 -- the work at its beginning
 abbrev pub begun : ℕ → Request → ℕ → ℕ → Kernel → WorkRecord
-begun x r c h k = record { caller = x; request = r; compared = c; head = h; done = 0; left = cost (effect program_serves (call_of r x c h) k) k }
+begun x r c h k = record { caller = x; request = r; interrupted = c; compared = h; done = 0; left = cost (effect program_serves (call_of r x c h) k) k }
 
 -- The work was begun on this kernel, and so many of its micro-steps are done and left.
 pub record IsBegun (w : WorkRecord) (k : Kernel) : Type 0 where

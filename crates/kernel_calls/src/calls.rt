@@ -8,7 +8,7 @@ ghost use Rattle.kern_model.specs.Call.{call_of};
 ghost use Rattle.kern_model.specs.State.{task_at, list_at, is_ready, prio_of, waits_for_nothing, update_object, with_content, Count};
 ghost use Rattle.kern_model.specs.Effect.{wakes, wakes_all, chosen, blocked, waits_for, posted_result, fine, new_match, wakes_cost};
 ghost use Rattle.kern_model.specs.Micro.{wait_place};
-ghost use Rattle.kern_model.specs.Services.{effect, posted, program_serves, cost};
+ghost use Rattle.kern_model.specs.Services.{effect, posted, post_request, program_serves, cost};
 ghost use Rattle.kern_model.specs.Valid.{IsLinked, MayCall};
 ghost use Rattle.kernel_calls.specs.KernelRecord.{with_state};
 ghost use Rattle.kernel_calls.specs.ObjectView.{objects_in};
@@ -22,21 +22,32 @@ use crate::lists::{
 };
 use crate::objects::{Content, Object};
 use crate::tasks::{answer_task, place_among, refusal, success, wait_for, wake_cost};
-use crate::work::{Progress, Work};
+use crate::work::{HANDLER, Progress, Work};
 use arrayvec::ArrayVec;
 use kern_base::{Answer, Decision, OsErr, Outcome, Post, Prio, Request, Service, TaskId, Who};
 
-// Posts of interrupt code have no caller; the handler's number stands for it.
-const HANDLER: TaskId = TaskId(63);
+// A post as a request.
+fn request_of(post: Post) -> Request
+    ensures { result ≡ post_request post.service post.args }
+{
+    let args = post.args;
+    Request {
+        service: post.service,
+        args,
+        ids: [0; 8],
+        n_ids: 0,
+        table: false,
+    }
+}
 
 impl Kernel {
     /// Begins a whole step: a call of a task, or a post that the handler of deferred posts performs.
-    /// `compared` is the priority whose list round robin looks at, `head` the one that readied tasks
-    /// are compared with.
-    pub fn begin(&self, caller: TaskId, request: Request, compared: Prio, head: Prio) -> Work
+    /// `interrupted` is the priority whose list round robin looks at, `compared` the one that readied
+    /// tasks are compared with.
+    pub fn begin(&self, caller: TaskId, request: Request, interrupted: Prio, compared: Prio) -> Work
         requires task { caller.0 < 64 }
         requires may { MayBegin caller.0 request self.now.state }
-        ensures work { result ≡ begun caller.0 request compared.0 head.0 self.now.state }
+        ensures work { result ≡ begun caller.0 request interrupted.0 compared.0 self.now.state }
         ensures begun { IsBegun result self.now.state }
         ensures valid { IsLinked self.now.state }
     {
@@ -45,11 +56,21 @@ impl Kernel {
         Work {
             caller,
             request,
+            interrupted,
             compared,
-            head,
             done: 0,
             left,
         }
+    }
+
+    /// Begins a take: the handler performs a post that was queued. `saved` is the priority that was saved
+    /// with the post, `compared` the one that readied tasks are compared with.
+    pub fn begin_take(&self, post: Post, saved: Prio, compared: Prio) -> Work
+        ensures work { result ≡ begun 63 (post_request post.service post.args) saved.0 compared.0 self.now.state }
+        ensures begun { IsBegun result self.now.state }
+        ensures valid { IsLinked self.now.state }
+    {
+        self.begin(HANDLER, request_of(post), saved, compared)
     }
 
     /// One micro-step. The last one makes the whole change.
@@ -73,7 +94,7 @@ impl Kernel {
             let _ = &self.lock;
             return Progress::More;
         }
-        Progress::Done(self.perform(work.caller, &work.request, work.head))
+        Progress::Done(self.perform(work.caller, &work.request, work.compared))
     }
 
     /// A post of interrupt code, at once and whole. `compared` is the priority whose list round robin
@@ -83,15 +104,7 @@ impl Kernel {
         ensures kernel { self.new ≡ with_state self.old (posted program_serves post.service post.args compared.0 compared.0 self.old.state).kernel }
         ensures valid { IsLinked self.new.state }
     {
-        let args = post.args;
-        let request = Request {
-            service: post.service,
-            args,
-            ids: [0; 8],
-            n_ids: 0,
-            table: false,
-        };
-        match self.perform(HANDLER, &request, compared) {
+        match self.perform(HANDLER, &request_of(post), compared) {
             Outcome::Answered(answer, _) => answer,
             _ => unreachable!(),
         }
@@ -112,11 +125,11 @@ impl Kernel {
     }
 
     // The whole change of a call, and its outcome.
-    fn perform(&mut self, caller: TaskId, request: &Request, head: Prio) -> Outcome
+    fn perform(&mut self, caller: TaskId, request: &Request, compared: Prio) -> Outcome
         requires task { caller.0 < 64 }
         requires may { MayBegin caller.0 request.now self.old.state }
-        ensures outcome { (c : ℕ) → result ≡ (effect program_serves (call_of request.now caller.0 c head.0) self.old.state).outcome }
-        ensures kernel { (c : ℕ) → self.new ≡ with_state self.old (effect program_serves (call_of request.now caller.0 c head.0) self.old.state).kernel }
+        ensures outcome { (c : ℕ) → result ≡ (effect program_serves (call_of request.now caller.0 c compared.0) self.old.state).outcome }
+        ensures kernel { (c : ℕ) → self.new ≡ with_state self.old (effect program_serves (call_of request.now caller.0 c compared.0) self.old.state).kernel }
         ensures valid { IsLinked self.new.state }
     {
         let _ = &self.lock;
@@ -132,7 +145,7 @@ impl Kernel {
                 Outcome::Waits
             }
             Decision::Wake(who) => {
-                self.wake_waiters(request.args[0], is_all(who), head);
+                self.wake_waiters(request.args[0], is_all(who), compared);
                 Outcome::Answered(success(0), None)
             }
         }
@@ -261,30 +274,30 @@ impl Kernel {
     }
 
     // Ends a task's wait for a semaphore with the result of a post to object number `object`.
-    fn wake(&mut self, task: u8, head: Prio)
+    fn wake(&mut self, task: u8, compared: Prio)
         requires application { task < 60 }
         requires waits { waits_for_nothing (task_at self.old.state task).waiting ≡ false }
-        ensures woken { self.new ≡ with_state self.old (wakes semaphore_result head.0 task self.old.state) }
+        ensures woken { self.new ≡ with_state self.old (wakes semaphore_result compared.0 task self.old.state) }
         ensures result { (o : ℕ) → posted_result o (fine 0) (task_at self.old.state task) ≡ semaphore_result }
         ensures valid { IsLinked self.new.state }
     {
         let tcb = *self.tasks.get(TaskId(task));
         answer_task(&mut self.tasks, TaskId(task));
-        make_ready(&mut self.ready, task, tcb.prio.0, tcb.suspended, head.0);
+        make_ready(&mut self.ready, task, tcb.prio.0, tcb.suspended, compared.0);
         leave_all(&mut self.pend, task, &tcb.ids[..tcb.n_ids as usize]);
         drop_match(&mut self.matches, task);
     }
 
     // Ends the wait of the first waiter of an object, or of all, in order.
-    fn wake_waiters(&mut self, object: u32, all: bool, head: Prio)
+    fn wake_waiters(&mut self, object: u32, all: bool, compared: Prio)
         requires { object < length self.old.state.objects }
-        ensures woken { self.new ≡ with_state self.old (wakes_all (posted_result object (fine 0)) head.0 (chosen all (list_at self.old.state.pend object)) self.old.state) }
+        ensures woken { self.new ≡ with_state self.old (wakes_all (posted_result object (fine 0)) compared.0 (chosen all (list_at self.old.state.pend object)) self.old.state) }
         ensures valid { IsLinked self.new.state }
     {
         let mut woken = ArrayVec::new();
         copy_tasks(&self.pend, object as usize, all, &mut woken);
         for task in woken.as_slice() {
-            self.wake(*task, head);
+            self.wake(*task, compared);
         }
     }
 

@@ -1,7 +1,8 @@
 // The kernel.
 
-ghost use Rattle.std.specs.Prelude.{◌≡◌, ◌<◌, true, false, IfOk, Some, slice_set, slice_index_or};
-ghost use Rattle.kern_model.specs.State.{task_at, pick, is_ready};
+ghost use Rattle.std.specs.Prelude.{◌≡◌, ◌<◌, true, false, IfOk, Some, List, map, slice_set, slice_index_or};
+ghost use Rattle.kern_model.specs.State.{Task, task_at, pick, is_ready};
+ghost use Rattle.machine_model.specs.Steps.{some_readied};
 ghost use Rattle.kern_model.specs.Valid.{IsLinked, has_result};
 ghost use Rattle.kern_model.specs.Finish.{finished};
 ghost use Rattle.kern_model.specs.Stop.{stopped};
@@ -16,7 +17,7 @@ use crate::starts::start_lists;
 use crate::tasks::{clear_result, stop_task};
 use app_image::Image;
 use arrayvec::ArrayVec;
-use kern_base::{Finished, NoMemory, TaskId};
+use kern_base::{Finished, NoMemory, Prio, TaskId};
 use rv32_exec::{Program, Ram, Regs, Stepped};
 use std::alloc::Global;
 use std::marker::Model;
@@ -111,6 +112,22 @@ impl Kernel {
         ensures valid { IsLinked self.now.state }
     {
         self.lock
+    }
+
+    /// Which tasks are ready, by number.
+    pub fn ready_tasks(&self) -> [bool; 64]
+        ensures value { result ≡ map is_ready self.now.state.tasks }
+        ensures valid { IsLinked self.now.state }
+    {
+        self.tasks.ready()
+    }
+
+    /// Whether a task of this priority is ready that was not: `before` tells which were.
+    pub fn has_readied(&self, before: &[bool; 64], prio: Prio) -> bool
+        ensures value { (tasks : List Task) → before.now ≡ map is_ready tasks → result ≡ some_readied prio.0 tasks self.now.state.tasks }
+        ensures valid { IsLinked self.now.state }
+    {
+        self.tasks.has_readied(before, prio)
     }
 
     /// The record of a task.

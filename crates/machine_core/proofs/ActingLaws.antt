@@ -1,22 +1,20 @@
 -- Which task acts in a still kernel: one of the application, or the idle task.
 use Rattle.std.specs.Prelude.{◌==◌, ◌&&◌, nat_lt, length, ◌≢◌}
 use Rattle.std.proofs.lemmas.List.{get_or_past}
-use Rattle.std.proofs.Common.{◌≡◌, ◌<◌, ◌≤◌, ℕ, Bool, true, false, refl, subst, arith, ltb-true, ltb-false, inl, inr, List, [], ◌∷◌, None, sym, ◌∙◌}
-use Rattle.kern_base.specs.declared.kinds.Method.TheVariants.{Direct}
+use Rattle.std.proofs.Common.{◌≡◌, ◌<◌, ◌≤◌, ℕ, Bool, true, false, refl, subst, arith, ltb-true, ltb-false}
+use Rattle.kern_base.specs.declared.kinds.Method.{Method}
 use Rattle.kern_base.specs.declared.outcomes.Waiting.TheVariants.{Signal}
 use Rattle.kern_model.specs.State.{Kernel, Task, task_at, no_task, is_ready}
 use Rattle.kern_model.specs.Services.{program_serves}
 use Rattle.kern_model.specs.Valid.{IsLinked}
-use Rattle.kern_model.proofs.Lemmas.{equal, unequal}
-use Rattle.machine_model.specs.Frames.{FrameRecord}
-use Rattle.machine_laws.specs.Valid.{HoldsLock, IsAtRest, IsValidMachine}
-use Rattle.machine_laws.proofs.RestLaws.{rest-of, IsActing}
+use Rattle.kern_model.proofs.Lemmas.{unequal}
+use Rattle.machine_laws.specs.Valid.{IsValidMachine}
+use Rattle.machine_laws.proofs.RestLaws.{IsActing}
 use Rattle.machine_model.specs.Machine.{Machine}
 use Rattle.machine_model.specs.Rules.{Rule, TaskActs, rule}
 use Rattle.machine_laws.specs.RuleTable.{Applies}
 use Rattle.machine_laws.proofs.RuleFacts.{applies}
 use Rattle.machine_laws.proofs.ActValid.{act}
-use Rattle.machine_laws.proofs.PickLaws.{ready-below}
 use Rattle.machine_core.specs.Valid.{IsStill}
 
 -- Of the internal tasks the idle task alone is ready.
@@ -58,41 +56,14 @@ application_acts k v s x ready other =
 
 -- Of a machine whose current task acts.
 
-pub resting : (m : Machine) → rule Direct m ≡ TaskActs → Applies Direct TaskActs m
-resting m e = subst (λ (r : Rule). Applies Direct r m) e (applies Direct m)
+pub resting : (d : Method) (m : Machine) → rule d m ≡ TaskActs → Applies d TaskActs m
+resting d m e = subst (λ (r : Rule). Applies d r m) e (applies d m)
 
-acting_task : (m : Machine) → IsValidMachine program_serves Direct m → rule Direct m ≡ TaskActs → IsActing m.current m.kernel
-acting_task m v e = let a = resting m e in act program_serves Direct m v a.0.frames a.0.in_hand a.1
+acting_task : (d : Method) (m : Machine) → IsValidMachine program_serves d m → rule d m ≡ TaskActs → IsActing m.current m.kernel
+acting_task d m v e = let a = resting d m e in act program_serves d m v a.0.frames a.0.in_hand a.1
 
--- it is one of the 64
-pub current_inside : (m : Machine) → IsValidMachine program_serves Direct m → rule Direct m ≡ TaskActs → m.current < 64
-current_inside m v e =
-    let a = acting_task m v e in
-    let below = ready-below m.kernel v.kernel m.current a.ready in
-    omega (arith, below)
-
--- and where it is not the idle task, it may call a service
-pub acts_as_caller : (m : Machine) → IsValidMachine program_serves Direct m → IsStill m.kernel → rule Direct m ≡ TaskActs → (m.current == 62) ≡ false → (m.current < 60) × (is_ready (task_at m.kernel m.current) ≡ true)
-acts_as_caller m v s e other =
-    let a = acting_task m v e in
+-- where it is not the idle task, it may call a service
+pub acts_as_caller : (d : Method) (m : Machine) → IsValidMachine program_serves d m → IsStill m.kernel → rule d m ≡ TaskActs → (m.current == 62) ≡ false → (m.current < 60) × (is_ready (task_at m.kernel m.current) ≡ true)
+acts_as_caller d m v s e other =
+    let a = acting_task d m v e in
     (application_acts m.kernel v.kernel s m.current a.ready (unequal m.current 62 other), a.ready)
-
--- While a frame stands nothing is in hand, and the current task is one of the 64.
-pub current_of_frame : (m : Machine) (f : FrameRecord) (below : List FrameRecord) → IsValidMachine program_serves Direct m → m.frames ≡ f ∷ below → m.current < 64
-current_of_frame m f below v top = by_lock (m.kernel.lock == 0) refl
-  where
-    none : m.in_hand ≡ None
-    none = elim v.fits.masked [ inl e ↦ e | inr e ↦ (let no : f ∷ below ≡ [] = sym top ∙ e in cc) ]
-
-    rests : IsAtRest Direct m.kernel m.current m.later m.frames
-    rests = rest-of program_serves Direct m v none
-
-    by_holder : HoldsLock m.current m.kernel → m.current < 64
-    by_holder (inl h) = let low = h.0 in omega (arith, low)
-    by_holder (inr h) = let same = h.0 in omega (arith, same)
-
-    by_lock : (b : Bool) → (m.kernel.lock == 0) ≡ b → m.current < 64
-    by_lock true e =
-        let below_63 = ready-below m.kernel v.kernel m.current (rests.ready (equal m.kernel.lock 0 e) v.fits.empty) in
-        omega (arith, below_63)
-    by_lock false e = by_holder (rests.locked (let some = unequal m.kernel.lock 0 e in omega (arith, some)))

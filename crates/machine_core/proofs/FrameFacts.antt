@@ -1,49 +1,52 @@
 -- What the machine's fields come to, where interrupt code acts.
 use Rattle.std.proofs.lemmas.Bool.Decides.{eqb_tells, leb_tells}
-use Rattle.std.specs.Prelude.{nat_lt, not, ◌==◌, option_map}
-use Rattle.std.proofs.Common.{◌≡◌, ◌<◌, ◌⊎◌, inl, inr, ℕ, ◌+◌, Bool, true, false, List, [], ◌∷◌, Option, Some, None, refl, sym, ap, ◌∙◌, subst, arith}
+use Rattle.std.specs.Prelude.{nat_lt, not, ◌==◌, is_none, option_map, All}
+use Rattle.std.proofs.Common.{◌≡◌, ◌<◌, inl, inr, ℕ, Bool, true, false, List, [], ◌∷◌, Option, Some, None, refl, sym, ap, ◌∙◌, subst, arith}
 use Rattle.std.proofs.lemmas.List.Elements.{All-cons, All-head, All-tail, All-contains}
-use Rattle.kern_base.specs.Checks.{static_error}
-use Rattle.kern_base.specs.declared.kinds.Method.TheVariants.{Direct}
+use Rattle.kern_base.specs.Numbers.{leave}
+use Rattle.kern_base.specs.Tables.{KindTable}
+use Rattle.kern_base.specs.declared.errors.OsErr.TheVariants.{CallUnknown}
+use Rattle.kern_base.specs.Services.{service_of}
+use Rattle.kern_base.specs.declared.kinds.Method.{Method}
+use Rattle.kern_base.specs.declared.kinds.Method.TheVariants.{Direct, Deferred}
 use Rattle.kern_base.specs.declared.numbers.TaskId.{TaskId}
-use Rattle.kern_base.specs.declared.errors.OsErr.{OsErr}
+use Rattle.kern_base.specs.declared.outcomes.Answer.{Answer}
 use Rattle.kern_base.specs.declared.services.Service.{Service}
 use Rattle.kern_base.specs.declared.services.Service.TheVariants.{SemPost, SemPend}
 use Rattle.kern_model.specs.Call.{call_of}
-use Rattle.kern_model.specs.State.{Kernel, prio_of, kinds_of}
-use Rattle.kern_model.specs.Services.{posted, post_request, program_serves}
+use Rattle.kern_model.specs.State.{prio_of, kinds_of}
+use Rattle.kern_model.specs.Services.{post_request, program_serves}
 use Rattle.kernel_calls.specs.KernelRecord.{KernelRecord, with_state}
 use Rattle.rv32_exec.specs.Registers.{Registers, read}
 use Rattle.rv32_exec.specs.Exec.{Execution, exec}
 use Rattle.rv32_exec.specs.declared.Stepped.{Stepped}
-use Rattle.rv32_exec.specs.declared.TrapKind.{TrapKind}
-use Rattle.kern_base.specs.Numbers.{leave}
-use Rattle.machine_model.specs.declared.events.How.{How}
+use Rattle.rv32_exec.specs.declared.Stepped.TheVariants.{Next, Call, Trap, Stored}
 use Rattle.machine_model.specs.declared.events.How.TheVariants as how
 use Rattle.machine_model.specs.declared.events.What.{What}
-use Rattle.machine_model.specs.declared.events.What.TheVariants.{Quiet, St, Irq}
+use Rattle.machine_model.specs.declared.events.What.TheVariants.{Irq, Exit}
 use Rattle.machine_model.specs.Marks.{marks_after, next_instruction}
-use Rattle.machine_core.proofs.QuietExec.{KeepsIf, keeps-exec}
-use Rattle.kern_base.specs.Services.{service_of}
-use Rattle.rv32_exec.specs.declared.Stepped.TheVariants.{Next, Call, Trap, Stored}
-use Rattle.machine_model.specs.Frames.{FrameRecord, Interrupt, entered, none_stands}
+use Rattle.machine_model.specs.Frames.{FrameRecord, Interrupt, entered}
 use Rattle.machine_model.specs.Due.{taken_at, is_step}
 use Rattle.isr_nesting.specs.Nest.{Nest, interrupts, waiting_at, without_number}
-use Rattle.kernel_calls.specs.Works.{WorkRecord}
 use Rattle.machine_core.specs.declared.machine.Machine.TheInside.{Inside}
 use Rattle.machine_model.specs.Machine.{Machine}
 use Rattle.machine_model.specs.Answers.{Change}
 use Rattle.machine_model.specs.Settling.{is_free}
-use Rattle.machine_model.specs.Interrupts.{without_top, leaves, frame_goes_on, frame_did, frame_calls, checked_post, answer_in, argument_words, ran}
-use Rattle.machine_model.specs.Rules.{Enters, FrameLimit, FrameRuns, rule, raw, next}
+use Rattle.machine_model.specs.Interrupts.{leaves, frame_runs, argument_words, ran}
+use Rattle.machine_model.specs.Rules.{Enters, FrameLimit, FrameRuns, rule, raw}
 use Rattle.machine_laws.proofs.DueLaws.{all-taken_at}
-use Rattle.machine_core.specs.FrameCalls.{FrameCall, task_below, called_by}
-use Rattle.machine_core.specs.MachineView.{machine_of, hand_of, IsKept, HasVectors}
-use Rattle.machine_core.specs.Valid.{change, most_task_steps, IsStill}
-use Rattle.machine_core.proofs.ComingLaws.{Comes}
-use Rattle.machine_core.proofs.MachineFacts.{by_rule, none_begun}
+use Rattle.machine_laws.specs.Valid.{IsValidMachine}
+use Rattle.deferred_queue.specs.QueueRecord.{QueueRecord}
+use Rattle.machine_core.specs.Posts.{post_at_once, post_later}
+use Rattle.machine_core.specs.FrameCalls.{called_by, next_step, step_by, refused_frame, task_below}
+use Rattle.machine_core.specs.MethodMachine.{next_machine}
+use Rattle.machine_core.specs.MachineView.{machine_of, method_machine_of, hand_of, IsKept, IsBegunOn, HasVectors}
+use Rattle.machine_core.specs.Valid.{change, changed, most_task_steps}
+use Rattle.machine_core.proofs.ComingLaws.{Comes, free-is}
+use Rattle.machine_core.proofs.MachineFacts.{by_rule, none_begun, steady_in, with_method}
 use Rattle.machine_core.proofs.KeptLaws.{kept-change, next-same}
-use Rattle.machine_core.proofs.StillLaws.{still-effect}
+use Rattle.machine_core.proofs.StillLaws.{IsSteady, steady-effect}
+use Rattle.machine_core.proofs.FrameRules.{after-is, comes-runs, IsStep, step-runs, keeps-step, goes-direct, goes-deferred}
 
 -- An interrupt enters.
 
@@ -58,8 +61,8 @@ module _ (a : Inside) (number : ℕ) (c : Comes a number) (n : Nest) (frames : o
   interrupts-are : interrupts n ≡ taken_at c.place.at (interrupts a.frames)
   interrupts-are = ap (λ ws. interrupts (record { frames = []; waiting = ws })) waiting ∙ c.taken
 
-  pub enters-machine : machine_of (record a { frames = n }) ≡ (change (machine_of a)).machine
-  enters-machine = rw (frames-are, interrupts-are) refl ∙ ap (λ (d : Change). d.machine) (sym (by_rule (machine_of a) (Enters c.place) c.rule_is))
+  enters-machine : method_machine_of (record a { frames = n }) ≡ changed (method_machine_of a)
+  enters-machine = with_method a.method (rw (frames-are, interrupts-are) refl ∙ ap (λ (d : Change). d.machine) (sym (by_rule a.method (machine_of a) (Enters c.place) c.rule_is)))
 
   vectors-entered : HasVectors a.frames → HasVectors n
   vectors-entered h =
@@ -70,9 +73,11 @@ module _ (a : Inside) (number : ℕ) (c : Comes a number) (n : Nest) (frames : o
       }
 
   pub enters-kept : IsKept a → a.t < most_task_steps → IsKept (record a { frames = n })
-  enters-kept k open_yet = kept-change a (record a { frames = n }) k open_yet enters-machine k.still k.work (vectors-entered k.vectors)
+  enters-kept k open_yet =
+      kept-change a (record a { frames = n }) k open_yet enters-machine
+      (record { still = k.parts.still; kinds = k.parts.kinds; work = k.parts.work; size = k.parts.size; vectors = vectors-entered k.parts.vectors })
 
-  pub enters-next : machine_of (record a { frames = n }) ≡ (next program_serves Direct (machine_of a)).1
+  pub enters-next : method_machine_of (record a { frames = n }) ≡ next_machine (method_machine_of a)
   enters-next = next-same a (record a { frames = n }) enters-machine (ap raw c.rule_is)
 
 -- what is told of it
@@ -80,11 +85,11 @@ told-of : (o : Option Interrupt) (i : Interrupt) (locked : Bool) (what : What) �
 told-of None i locked what e t = cc
 told-of (Some j) i locked what e t = cc
 
-pub enters-line : (a : Inside) (number : ℕ) (c : Comes a number) (locked : Bool) (what : What) → option_map (λ i. Irq i.vector i.level (is_step i.moment) locked) (waiting_at number a.frames.waiting) ≡ Some what → locked ≡ not (a.kernel.state.lock == 0) → what ≡ (change (machine_of a)).what
+pub enters-line : (a : Inside) (number : ℕ) (c : Comes a number) (locked : Bool) (what : What) → option_map (λ i. Irq i.vector i.level (is_step i.moment) locked) (waiting_at number a.frames.waiting) ≡ Some what → locked ≡ not (a.kernel.state.lock == 0) → what ≡ (change a.method (machine_of a)).what
 enters-line a number c locked what t e =
     told-of (waiting_at number a.frames.waiting) c.place.interrupt locked what c.waits t
     ∙ ap (λ b. Irq c.place.interrupt.vector c.place.interrupt.level (is_step c.place.interrupt.moment) b) e
-    ∙ ap (λ (d : Change). d.what) (sym (by_rule (machine_of a) (Enters c.place) c.rule_is))
+    ∙ ap (λ (d : Change). d.what) (sym (by_rule a.method (machine_of a) (Enters c.place) c.rule_is))
 
 -- whether the scheduler is locked
 pub locked-is : (lock : ℕ) → nat_lt 0 lock ≡ not (lock == 0)
@@ -93,152 +98,129 @@ locked-is lock = elim (eqb_tells lock 0) [ inl e ↦ rw (e.0, e.1) refl | inr e 
     some : (n : ℕ) → (n ≡ 0 → ⊥) → nat_lt 0 n ≡ true
     some n d = elim (leb_tells 1 n) [ inl e ↦ e.0 | inr e ↦ absurd (omega (arith, e.1, d)) ]
 
--- A frame leaves.
-
-nothing-held : (o : Option WorkRecord) → hand_of o ≡ None → is_free (hand_of o) ≡ true
-nothing-held o e = rw e refl
-
--- where a frame stands nothing is in hand
-pub none-held : (a : Inside) (f : FrameRecord) (below : List FrameRecord) → IsKept a → a.frames.frames ≡ f ∷ below → hand_of a.in_hand ≡ None
-none-held a f below k e = by k.valid.fits.masked
-  where
-    by : (hand_of a.in_hand ≡ None) ⊎ (a.frames.frames ≡ []) → hand_of a.in_hand ≡ None
-    by (inl none) = none
-    by (inr none) = let no : f ∷ below ≡ [] = sym e ∙ none in cc
-
-without : (b : Bool) (below : List FrameRecord) (m : Machine) → is_free m.in_hand ≡ true → none_stands below ≡ b → m.later ≡ [] → without_top below m ≡ record m { frames = below; current = task_below below m.kernel m.current }
-without true below m free e posts = rw (e, free, posts) refl
-without false below m free e posts = rw e refl
-
-pub left-machine : (a : Inside) (n : Nest) (below : List FrameRecord) (current : TaskId) → hand_of a.in_hand ≡ None → n ≡ record { frames = below; waiting = a.frames.waiting } → current.0 ≡ task_below below a.kernel.state a.current.0 → machine_of (record a { frames = n; current = current }) ≡ without_top below (machine_of a)
-left-machine a n below current none e settles = rw (e, settles) refl ∙ sym (without (none_stands below) below (machine_of a) (nothing-held a.in_hand none) refl refl)
-
--- A call of a frame.
-
--- a post that is served makes the static checks itself
-posting-checked : (e : Option OsErr) (s : Service) (args : List ℕ) (m : Machine) → program_serves s ≡ true → static_error s args (kinds_of m.kernel) false ≡ e → (p : ℕ) → p ≡ prio_of m.kernel m.current
-    → checked_post program_serves Direct e s args m ≡ record { answer = answer_in (posted program_serves s args p p m.kernel).outcome; kernel = (posted program_serves s args p p m.kernel).kernel; later = m.later }
-posting-checked None s args m served e p same = rw same refl
-posting-checked (Some err) s args m served e p same = rw (served, e) refl
-
-pub calls-by : (s : Service) (args : List ℕ) (f : FrameRecord) (below : List FrameRecord) (regs : Registers) (m : Machine) → let c = called_by s args f regs (prio_of m.kernel m.current) m.kernel in frame_calls program_serves Direct s args f below regs m ≡ record { what = c.what; machine = record m { kernel = c.kernel; frames = c.frame ∷ below } }
-calls-by SemPost args f below regs m = rw (posting-checked (static_error SemPost args (kinds_of m.kernel) false) SemPost args m refl refl (prio_of m.kernel m.current) refl) refl
-calls-by SemPend args f below regs m = refl
-calls-by _ args f below regs m = refl
-
-pub still-called : (s : Service) (args : List ℕ) (f : FrameRecord) (regs : Registers) (p : ℕ) (k : Kernel) → IsStill k → IsStill (called_by s args f regs p k).kernel
-still-called SemPost args f regs p k h = still-effect (call_of (post_request SemPost args) 63 p p) k h
-still-called _ args f regs p k h = h
-
 -- The vectors stay within their numbers.
 
-pub vectors-left : (a : Inside) (f : FrameRecord) (below : List FrameRecord) (n : Nest) → a.frames.frames ≡ f ∷ below → n ≡ record { frames = below; waiting = a.frames.waiting } → HasVectors a.frames → HasVectors n
+vectors-left : (a : Inside) (f : FrameRecord) (below : List FrameRecord) (n : Nest) → a.frames.frames ≡ f ∷ below → n ≡ record { frames = below; waiting = a.frames.waiting } → HasVectors a.frames → HasVectors n
 vectors-left a f below n top e h = rw e (record { frames = All-tail (λ (g : FrameRecord). g.vector < 32) f below (rw top at h.frames); waiting = h.waiting })
 
 pub vector-top : (a : Inside) (f : FrameRecord) (below : List FrameRecord) → a.frames.frames ≡ f ∷ below → HasVectors a.frames → f.vector < 32
 vector-top a f below top h = All-head (λ (g : FrameRecord). g.vector < 32) f below (rw top at h.frames)
 
-pub vectors-top : (a : Inside) (f g : FrameRecord) (below : List FrameRecord) (n : Nest) → a.frames.frames ≡ f ∷ below → g.vector ≡ f.vector → n ≡ record { frames = g ∷ below; waiting = a.frames.waiting } → HasVectors a.frames → HasVectors n
-vectors-top a f g below n top same e h =
-    let low = vector-top a f below top h in
-    let rest = All-tail (λ (x : FrameRecord). x.vector < 32) f below (rw top at h.frames) in
-    rw e (record { frames = All-cons (λ (x : FrameRecord). x.vector < 32) g below (omega (arith, low, same)) rest; waiting = h.waiting })
+-- A frame leaves at its limit.
 
--- It leaves, also at its limit.
-module _ (a : Inside) (f : FrameRecord) (below : List FrameRecord) (k : IsKept a) (top : a.frames.frames ≡ f ∷ below) where
-  pub leave-machine : (how : How) (n : Nest) (current : TaskId) (ram : List ℕ) → change (machine_of a) ≡ leaves how f below (machine_of a) → ram ≡ a.ram → n ≡ record { frames = below; waiting = a.frames.waiting } → current.0 ≡ task_below below a.kernel.state a.current.0
-      → machine_of (record a { ram = ram; frames = n; current = current }) ≡ (change (machine_of a)).machine
-  leave-machine how n current ram c same nest settles =
-      rw same (left-machine a n below current (none-held a f below k top) nest settles ∙ ap (λ (d : Change). d.machine) (sym c))
+free-told : (a : Inside) (free : Bool) → free ≡ is_none a.in_hand → is_free (hand_of a.in_hand) ≡ free
+free-told a free e = free-is a.in_hand ∙ sym e
 
-  pub leave-kept : (how : How) (n : Nest) (current : TaskId) (ram : List ℕ) → change (machine_of a) ≡ leaves how f below (machine_of a) → ram ≡ a.ram → n ≡ record { frames = below; waiting = a.frames.waiting } → current.0 ≡ task_below below a.kernel.state a.current.0 → a.t < most_task_steps
-      → IsKept (record a { ram = ram; frames = n; current = current })
-  leave-kept how n current ram c same nest settles open_yet =
-      kept-change a (record a { ram = ram; frames = n; current = current }) k open_yet (leave-machine how n current ram c same nest settles) k.still (none_begun a.in_hand a.kernel.state (none-held a f below k top)) (vectors-left a f below n top nest k.vectors)
+module _ (a : Inside) (f : FrameRecord) (below : List FrameRecord) (k : IsKept a) (top : a.frames.frames ≡ f ∷ below) (r : rule a.method (machine_of a) ≡ FrameLimit f below) (n : Nest) (current : TaskId) (free : Bool) (nest : n ≡ record { frames = below; waiting = a.frames.waiting })
+    (is_free : free ≡ is_none a.in_hand) (settles : current.0 ≡ task_below n.frames free a.kernel.state a.later.posts a.current.0) where
+  limit-change : change a.method (machine_of a) ≡ leaves how.Limit f below (machine_of a)
+  limit-change = by_rule a.method (machine_of a) (FrameLimit f below) r
 
--- at its limit
-pub limit-change : (a : Inside) (f : FrameRecord) (below : List FrameRecord) → rule Direct (machine_of a) ≡ FrameLimit f below → change (machine_of a) ≡ leaves how.Limit f below (machine_of a)
-limit-change a f below r = by_rule (machine_of a) (FrameLimit f below) r
+  limit-state : machine_of (record a { frames = n; current = current }) ≡ (change a.method (machine_of a)).machine
+  limit-state = rw (settles, nest, ← free-told a free is_free) refl ∙ sym (after-is (record (machine_of a) { frames = below })) ∙ ap (λ (d : Change). d.machine) (sym limit-change)
 
--- One instruction of the top frame.
+  pub limit-machine : method_machine_of (record a { frames = n; current = current }) ≡ changed (method_machine_of a)
+  limit-machine = with_method a.method limit-state
 
-module _ (a : Inside) (f : FrameRecord) (below : List FrameRecord) (r : rule Direct (machine_of a) ≡ FrameRuns f below) where
-  abbrev pub e : Execution
-  e = exec a.program f.registers a.ram
+  pub limit-line : Exit f.vector how.Limit ≡ (change a.method (machine_of a)).what
+  limit-line = ap (λ (d : Change). d.what) (sym limit-change)
 
-  abbrev pub marks : List ℕ
-  marks = marks_after (next_instruction a.program f.registers) f.marks
+  pub limit-kept : a.t < most_task_steps → IsKept (record a { frames = n; current = current })
+  limit-kept open_yet =
+      kept-change a (record a { frames = n; current = current }) k open_yet limit-machine
+      (record { still = k.parts.still; kinds = k.parts.kinds; work = k.parts.work; size = k.parts.size; vectors = vectors-left a f below n top nest k.parts.vectors })
 
-  by_outcome : (did : Stepped) → e.did ≡ did → change (machine_of a) ≡ frame_did program_serves Direct did e f below marks (machine_of a)
-  by_outcome did same = by_rule (machine_of a) (FrameRuns f below) r ∙ ap (λ (d : Stepped). frame_did program_serves Direct d e f below marks (machine_of a)) same
+-- The top frame runs one instruction.
 
-  quiet : (did : Stepped) → e.did ≡ did → KeepsIf did a.ram e.memory
-  quiet did same = subst (λ (d : Stepped). KeepsIf d a.ram e.memory) same (keeps-exec a.program f.registers a.ram)
+-- these vectors are those of the frames before, or fewer
+below-vectors : (f g : FrameRecord) (below : List FrameRecord) → All (λ x. x.vector < 32) (f ∷ below) → g.vector ≡ f.vector → All (λ x. x.vector < 32) (g ∷ below)
+below-vectors f g below h same =
+    let low = All-head (λ (x : FrameRecord). x.vector < 32) f below h in
+    All-cons (λ (x : FrameRecord). x.vector < 32) g below (omega (arith, low, same)) (All-tail (λ (x : FrameRecord). x.vector < 32) f below h)
 
-  returns : (e.registers.pc == leave) ≡ true → frame_goes_on program_serves Direct f below e.registers marks (machine_of a) ≡ leaves how.Ret f below (machine_of a)
-  returns t = rw t refl
+module _ {X : Type 0} (way : Service → List ℕ → X → Answer × X) (kinds : KindTable) (x : X) (f : FrameRecord) (below : List FrameRecord) (h : All (λ (g : FrameRecord). g.vector < 32) (f ∷ below)) where
+  vectors-called : (s : Service) (args : List ℕ) (regs : Registers) → All (λ (g : FrameRecord). g.vector < 32) ((called_by way kinds s args f regs x).frame ∷ below)
+  vectors-called SemPost args regs = below-vectors f (called_by way kinds SemPost args f regs x).frame below h refl
+  vectors-called SemPend args regs = below-vectors f (called_by way kinds SemPend args f regs x).frame below h refl
+  vectors-called _ args regs = below-vectors f (refused_frame CallUnknown f regs) below h refl
 
-  stays : (e.registers.pc == leave) ≡ false → frame_goes_on program_serves Direct f below e.registers marks (machine_of a) ≡ record { what = Quiet; machine = record (machine_of a) { frames = ran f e.registers marks ∷ below } }
-  stays t = rw t refl
+  vectors-next : (b : Bool) (regs : Registers) (marks memory : List ℕ) → All (λ (g : FrameRecord). g.vector < 32) (next_step way kinds b f below regs marks memory x).frames
+  vectors-next true regs marks memory = All-tail (λ (g : FrameRecord). g.vector < 32) f below h
+  vectors-next false regs marks memory = below-vectors f (ran f regs marks) below h refl
 
-  pub return-change : e.did ≡ Next → (e.registers.pc == leave) ≡ true → change (machine_of a) ≡ leaves how.Ret f below (machine_of a)
-  return-change did t = by_outcome Next did ∙ returns t
+  vectors-step : (did : Stepped) (e : Execution) (marks memory : List ℕ) → All (λ (g : FrameRecord). g.vector < 32) (step_by way kinds did e f below marks memory x).frames
+  vectors-step Next e marks memory = vectors-next (e.registers.pc == leave) e.registers marks memory
+  vectors-step (Stored addr width value) e marks memory = below-vectors f (ran f e.registers marks) below h refl
+  vectors-step Call e marks memory = vectors-called (service_of (read e.registers 17)) (argument_words e.registers) e.registers
+  vectors-step (Trap kind pc) e marks memory = All-tail (λ (g : FrameRecord). g.vector < 32) f below h
 
-  pub trap-change : (kind : TrapKind) (pc : ℕ) → e.did ≡ Trap kind pc → change (machine_of a) ≡ leaves (how.Trap kind pc) f below (machine_of a)
-  trap-change kind pc did = by_outcome (Trap kind pc) did
+-- What the rule of a frame that runs keeps, by either method.
 
-  pub stay-change : e.did ≡ Next → (e.registers.pc == leave) ≡ false → change (machine_of a) ≡ record { what = Quiet; machine = record (machine_of a) { frames = ran f e.registers marks ∷ below } }
-  stay-change did t = by_outcome Next did ∙ stays t
+-- the kernel of a machine, and its queue
+abbrev kernel_of : Machine → KernelRecord
+kernel_of m = record { state = m.kernel; registers = m.registers }
 
-  pub store-change : (addr width value : ℕ) → e.did ≡ Stored addr width value → change (machine_of a) ≡ record { what = St (64 + f.vector) addr width value; machine = record (machine_of a) { memory = e.memory; frames = ran f e.registers marks ∷ below } }
-  store-change addr width value did = by_outcome (Stored addr width value) did
+abbrev queue_of : Machine → QueueRecord
+queue_of m = record { posts = m.later; size = m.config.defer_size }
 
-  pub call-change : e.did ≡ Call → let c = called_by (service_of (read e.registers 17)) (argument_words e.registers) f e.registers (prio_of a.kernel.state a.current.0) a.kernel.state in change (machine_of a) ≡ record { what = c.what; machine = record (machine_of a) { kernel = c.kernel; frames = c.frame ∷ below } }
-  call-change did = by_outcome Call did ∙ calls-by (service_of (read e.registers 17)) (argument_words e.registers) f below e.registers (machine_of a)
+direct-is : (m : Machine) (f : FrameRecord) (below : List FrameRecord) → let e = exec m.code f.registers m.memory in IsStep (post_at_once (prio_of m.kernel m.current)) (λ (k : KernelRecord). k.state) (λ _. m.later) (frame_runs program_serves Direct f below m) (step_by (post_at_once (prio_of m.kernel m.current)) (kinds_of m.kernel) e.did e f below (marks_after (next_instruction m.code f.registers) f.marks) m.memory (kernel_of m))
+direct-is m f below = step-runs (post_at_once (prio_of m.kernel m.current)) (λ (k : KernelRecord). k.state) (λ _. m.later) Direct m (kernel_of m) refl refl (λ s args. goes-direct m (kernel_of m) s args refl) f below
 
-  -- the memory is as it was, but for a store
-  pub quiet-next : e.did ≡ Next → e.memory ≡ a.ram
-  quiet-next did = quiet Next did
+deferred-is : (m : Machine) (f : FrameRecord) (below : List FrameRecord) → let e = exec m.code f.registers m.memory in IsStep (post_later (prio_of m.kernel m.current)) (λ _. m.kernel) (λ (q : QueueRecord). q.posts) (frame_runs program_serves Deferred f below m) (step_by (post_later (prio_of m.kernel m.current)) (kinds_of m.kernel) e.did e f below (marks_after (next_instruction m.code f.registers) f.marks) m.memory (queue_of m))
+deferred-is m f below = step-runs (post_later (prio_of m.kernel m.current)) (λ _. m.kernel) (λ (q : QueueRecord). q.posts) Deferred m (queue_of m) refl refl (λ s args. goes-deferred m (queue_of m) s args refl refl) f below
 
-  pub quiet-call : e.did ≡ Call → e.memory ≡ a.ram
-  quiet-call did = quiet Call did
+vectors-runs : (d : Method) (m : Machine) (f : FrameRecord) (below : List FrameRecord) → All (λ (g : FrameRecord). g.vector < 32) (f ∷ below) → All (λ (g : FrameRecord). g.vector < 32) (frame_runs program_serves d f below m).machine.frames
+vectors-runs Direct m f below h =
+    let e = exec m.code f.registers m.memory in
+    subst (All (λ (g : FrameRecord). g.vector < 32)) (direct-is m f below).frames
+    (vectors-step (post_at_once (prio_of m.kernel m.current)) (kinds_of m.kernel) (kernel_of m) f below h e.did e (marks_after (next_instruction m.code f.registers) f.marks) m.memory)
+vectors-runs Deferred m f below h =
+    let e = exec m.code f.registers m.memory in
+    subst (All (λ (g : FrameRecord). g.vector < 32)) (deferred-is m f below).frames
+    (vectors-step (post_later (prio_of m.kernel m.current)) (kinds_of m.kernel) (queue_of m) f below h e.did e (marks_after (next_instruction m.code f.registers) f.marks) m.memory)
 
-  pub quiet-trap : (kind : TrapKind) (pc : ℕ) → e.did ≡ Trap kind pc → e.memory ≡ a.ram
-  quiet-trap kind pc did = quiet (Trap kind pc) did
+steady-runs : (d : Method) (m : Machine) (f : FrameRecord) (below : List FrameRecord) (table : KindTable) → IsSteady table m.kernel → IsSteady table (frame_runs program_serves d f below m).machine.kernel
+steady-runs Direct m f below table h =
+    let e = exec m.code f.registers m.memory in
+    let p = prio_of m.kernel m.current in
+    subst (IsSteady table) (direct-is m f below).kernel
+    (keeps-step (post_at_once p) (kinds_of m.kernel) (λ (k : KernelRecord). IsSteady table k.state) (kernel_of m) h (λ s args. steady-effect table (call_of (post_request s args) 63 p p) m.kernel h) e.did e f below (marks_after (next_instruction m.code f.registers) f.marks) m.memory)
+steady-runs Deferred m f below table h = subst (IsSteady table) (deferred-is m f below).kernel h
 
-  -- what comes of it, in the fields
+-- by the direct method nothing is in hand while a frame stands, and by the deferred one its kernel stays
+work-runs : (a : Inside) (f : FrameRecord) (below : List FrameRecord) (d : Method) → a.method ≡ d → IsKept a → a.frames.frames ≡ f ∷ below → IsBegunOn a.config a.in_hand (frame_runs program_serves d f below (machine_of a)).machine.kernel
+work-runs a f below Direct e k top =
+    let valid : IsValidMachine program_serves Direct (machine_of a) = subst (λ (d : Method). IsValidMachine program_serves d (machine_of a)) e k.valid in
+    none_begun a.config a.in_hand _ (elim valid.fits.masked [ inl none ↦ none | inr none ↦ (let no : f ∷ below ≡ [] = sym top ∙ none in cc) ])
+work-runs a f below Deferred e k top = subst (IsBegunOn a.config a.in_hand) (deferred-is (machine_of a) f below).kernel k.parts.work
 
-  module _ (k : IsKept a) (top : a.frames.frames ≡ f ∷ below) where
-    -- the top frame goes on
-    pub top-machine : (what : What) (memory : List ℕ) (n : Nest) (ms : List ℕ) → change (machine_of a) ≡ record { what = what; machine = record (machine_of a) { memory = memory; frames = ran f e.registers marks ∷ below } } → ms ≡ marks
-        → n ≡ record { frames = ran f e.registers ms ∷ below; waiting = a.frames.waiting } → machine_of (record a { ram = memory; frames = n }) ≡ (change (machine_of a)).machine
-    top-machine what memory n ms c same_marks nest = rw (nest, same_marks) refl ∙ ap (λ (d : Change). d.machine) (sym c)
+-- What a step of the top frame leaves is what the rule does: its parts, and the current task, which follows from them.
+module _ (a : Inside) (f : FrameRecord) (below : List FrameRecord) (k : IsKept a) (top : a.frames.frames ≡ f ∷ below) (r : rule a.method (machine_of a) ≡ FrameRuns f below) where
+  abbrev c : Change
+  c = frame_runs program_serves a.method f below (machine_of a)
 
-    pub top-kept : (what : What) (memory : List ℕ) (n : Nest) (ms : List ℕ) → change (machine_of a) ≡ record { what = what; machine = record (machine_of a) { memory = memory; frames = ran f e.registers marks ∷ below } } → ms ≡ marks
-        → n ≡ record { frames = ran f e.registers ms ∷ below; waiting = a.frames.waiting } → a.t < most_task_steps → IsKept (record a { ram = memory; frames = n })
-    top-kept what memory n ms c same_marks nest open_yet =
-        kept-change a (record a { ram = memory; frames = n }) k open_yet (top-machine what memory n ms c same_marks nest) k.still (none_begun a.in_hand a.kernel.state (none-held a f below k top))
-        (vectors-top a f (ran f e.registers ms) below n top refl nest k.vectors)
+  pub runs-change : change a.method (machine_of a) ≡ c
+  runs-change = by_rule a.method (machine_of a) (FrameRuns f below) r
 
-    -- the top frame has called
-    abbrev pub called : Registers → ℕ → FrameCall
-    called regs p = called_by (service_of (read regs 17)) (argument_words regs) f regs p a.kernel.state
+  module _ (kernel : KernelRecord) (later : QueueRecord) (n : Nest) (ram : List ℕ) (current : TaskId) (free : Bool) (kernel_is : kernel ≡ with_state a.kernel c.machine.kernel) (later_is : later.posts ≡ c.machine.later) (nest : n ≡ record { frames = c.machine.frames; waiting = a.frames.waiting })
+      (memory : ram ≡ c.machine.memory) (is_free : free ≡ is_none a.in_hand) (settles : current.0 ≡ task_below n.frames free kernel.state later.posts a.current.0) where
+    runs-state : machine_of (record a { kernel = kernel; later = later; frames = n; ram = ram; current = current }) ≡ (change a.method (machine_of a)).machine
+    runs-state =
+        rw (settles, kernel_is, later_is, nest, memory, ← free-told a free is_free) refl
+        ∙ sym (after-is (record (machine_of a) { kernel = c.machine.kernel; later = c.machine.later; frames = c.machine.frames; memory = c.machine.memory }))
+        ∙ sym (comes-runs a.method f below (machine_of a)).machine ∙ ap (λ (d : Change). d.machine) (sym runs-change)
 
-    pub called-machine : (kernel : KernelRecord) (n : Nest) (ram : List ℕ) (regs : Registers) (p : ℕ) → e.did ≡ Call → ram ≡ e.memory → regs ≡ e.registers → p ≡ prio_of a.kernel.state a.current.0 → kernel ≡ with_state a.kernel (called regs p).kernel → n ≡ record { frames = (called regs p).frame ∷ below; waiting = a.frames.waiting }
-        → machine_of (record a { kernel = kernel; ram = ram; frames = n }) ≡ (change (machine_of a)).machine
-    called-machine kernel n ram regs p did same_memory same_regs same_prio state nest =
-        rw (state, nest, same_memory, quiet-call did, same_prio, same_regs) refl ∙ ap (λ (d : Change). d.machine) (sym (call-change did))
+    pub runs-machine : method_machine_of (record a { kernel = kernel; later = later; frames = n; ram = ram; current = current }) ≡ changed (method_machine_of a)
+    runs-machine = with_method a.method runs-state
 
-    pub called-line : (what : What) (regs : Registers) (p : ℕ) → e.did ≡ Call → regs ≡ e.registers → p ≡ prio_of a.kernel.state a.current.0 → what ≡ (called regs p).what → what ≡ (change (machine_of a)).what
-    called-line what regs p did same_regs same_prio told = told ∙ rw (same_prio, same_regs) refl ∙ ap (λ (d : Change). d.what) (sym (call-change did))
-
-    call-vector : (s : Service) (args : List ℕ) (regs : Registers) (p : ℕ) (j : Kernel) → (called_by s args f regs p j).frame.vector ≡ f.vector
-    call-vector SemPost args regs p j = refl
-    call-vector _ args regs p j = refl
-
-    pub called-kept : (kernel : KernelRecord) (n : Nest) (ram : List ℕ) (regs : Registers) (p : ℕ) → e.did ≡ Call → ram ≡ e.memory → regs ≡ e.registers → p ≡ prio_of a.kernel.state a.current.0 → kernel ≡ with_state a.kernel (called regs p).kernel → n ≡ record { frames = (called regs p).frame ∷ below; waiting = a.frames.waiting } → a.t < most_task_steps
-        → IsKept (record a { kernel = kernel; ram = ram; frames = n })
-    called-kept kernel n ram regs p did same_memory same_regs same_prio state nest open_yet =
-        kept-change a (record a { kernel = kernel; ram = ram; frames = n }) k open_yet (called-machine kernel n ram regs p did same_memory same_regs same_prio state nest)
-        (rw state (still-called (service_of (read regs 17)) (argument_words regs) f regs p a.kernel.state k.still)) (none_begun a.in_hand kernel.state (none-held a f below k top))
-        (vectors-top a f (called regs p).frame below n top (call-vector (service_of (read regs 17)) (argument_words regs) regs p a.kernel.state) nest k.vectors)
+    pub runs-kept : a.t < most_task_steps → later.size ≡ a.later.size → IsKept (record a { kernel = kernel; later = later; frames = n; ram = ram; current = current })
+    runs-kept open_yet size =
+        let steady : IsSteady a.kinds kernel.state = rw kernel_is (steady-runs a.method (machine_of a) f below a.kinds (steady_in a k)) in
+        kept-change a (record a { kernel = kernel; later = later; frames = n; ram = ram; current = current }) k open_yet runs-machine
+        (record {
+          still = steady.still;
+          kinds = steady.kinds;
+          work = rw kernel_is (work-runs a f below a.method refl k top);
+          size = size ∙ k.parts.size;
+          vectors = rw nest (record { frames = vectors-runs a.method (machine_of a) f below (rw top at k.parts.vectors.frames); waiting = k.parts.vectors.waiting });
+        })

@@ -3,10 +3,13 @@ pub mod ActingLaws
 pub mod StillLaws
 pub mod OutcomeLaws
 pub mod PrintLaws
+pub mod CurrentLaws
 pub mod KeptLaws
 pub mod MachineFacts
 pub mod StartFacts
 pub mod QuietExec
 pub mod ComingLaws
 pub mod TopLaws
+pub mod FrameRules
 pub mod FrameFacts
+pub mod IsrLaws

@@ -1,8 +1,14 @@
 -- What the machine's fields come to, act by act.
-use Rattle.std.specs.Prelude.{◌==◌, length, slice_index_or, slice_set}
-use Rattle.std.proofs.Common.{◌≡◌, ◌<◌, ℕ, ◌+◌, Bool, true, false, List, [], Option, Some, None, refl, sym, ap, ◌∙◌, subst, arith, eq-eqb, ne_eqb}
+use Rattle.std.specs.Prelude.{◌==◌, ◌&&◌, is_some, not, length, slice_index_or, slice_set}
+use Rattle.std.proofs.Common.{◌≡◌, ◌<◌, ℕ, ◌+◌, Bool, true, false, List, [], ◌∷◌, Option, Some, None, refl, sym, ap, ◌∙◌, subst, arith, eq-eqb, ne_eqb}
 use Rattle.kern_base.specs.declared.numbers.TaskId.{TaskId}
-use Rattle.kern_base.specs.declared.kinds.Method.TheVariants.{Direct}
+use Rattle.kern_base.specs.declared.kinds.Method.{Method}
+use Rattle.kern_base.specs.Services.{argument_count}
+use Rattle.app_image.specs.declared.settings.Config.{Config}
+use Rattle.kern_model.proofs.Lemmas.{equal}
+use Rattle.deferred_queue.specs.QueueRecord.{QueueRecord}
+use Rattle.machine_model.specs.Queue.{Queued, front, without_front}
+use Rattle.machine_model.specs.Interrupts.{answer_in}
 use Rattle.kern_base.specs.declared.services.Service.{Service}
 use Rattle.kern_base.specs.declared.outcomes.Finished.{Finished}
 use Rattle.kern_base.specs.declared.outcomes.Outcome.{Outcome}
@@ -12,13 +18,14 @@ use Rattle.kern_model.specs.State.{Kernel, task_at, prio_of}
 use Rattle.kern_model.specs.Effect.{Effect}
 use Rattle.kern_model.specs.Finish.{finished}
 use Rattle.kern_model.specs.Valid.{has_result}
-use Rattle.kern_model.specs.Services.{effect, program_serves, cost}
+use Rattle.kern_model.specs.Services.{post_request, program_serves, cost}
 use Rattle.kernel_calls.specs.KernelRecord.{KernelRecord, with_state}
-use Rattle.kernel_calls.specs.Works.{WorkRecord, effect_of, stepped}
+use Rattle.kernel_calls.specs.Works.{WorkRecord, IsBegun, begun, effect_of, stepped}
 use Rattle.machine_core.specs.declared.machine.Machine.TheInside.{Inside}
-use Rattle.machine_model.specs.Machine.{Machine, WholeStep, CallOf, registers_at}
+use Rattle.machine_model.specs.Machine.{Machine, Work, WholeStep, CallOf, registers_at, handler_compares, effect_of as whole_effect}
 use Rattle.kern_base.specs.declared.requests.Request.{Request}
 use Rattle.machine_model.specs.declared.events.What.{What}
+use Rattle.machine_model.specs.declared.events.What.TheVariants.{Quiet as NoLine, Take}
 use Rattle.rv32_exec.specs.Registers.{Registers, no_registers}
 use Rattle.rv32_exec.specs.Exec.{Execution, exec}
 use Rattle.rv32_exec.specs.declared.Stepped.{Stepped}
@@ -29,94 +36,166 @@ use Rattle.rv32_exec.specs.Changes.{Changes}
 use Rattle.rv32_exec.proofs.ChangeLaws.{changes-exec}
 use Rattle.std.proofs.lemmas.List.{get_or-set_same, set-get_or}
 use Rattle.kern_model.specs.Stop.{stopped}
-use Rattle.machine_model.specs.Answers.{Change, with_table}
-use Rattle.machine_model.specs.Settling.{settled_task}
-use Rattle.machine_model.specs.Steps.{advances, call_ends}
+use Rattle.machine_model.specs.Answers.{Change, arguments, with_table}
+use Rattle.machine_model.specs.Settling.{settled_task, none_waits}
+use Rattle.machine_model.specs.Steps.{advances, ends, call_ends, take_ends, some_readied}
 use Rattle.machine_model.specs.Acts.{acts, calls, called, instructs, request_of, traps}
-use Rattle.machine_model.specs.Rules.{Rule, Begins, MicroStep, TaskActs, rule, raw, done, rule_in_hand, rule_of_post}
-use Rattle.machine_laws.specs.Valid.{IsInHand}
-use Rattle.machine_core.specs.AnswerView.{ended_kernel, finished_by, finished_kernel, HasNoTable}
-use Rattle.machine_core.specs.MachineView.{machine_of, step_of, hand_of, IsKept, IsBegunHere, IsBegunOn}
-use Rattle.machine_core.specs.Valid.{IsStill, most_task_steps, change}
+use Rattle.machine_model.specs.Rules.{Rule, Begins, MicroStep, TakeBegins, TaskActs, rule, raw, done, rule_in_hand, rule_of_post, may_take}
+use Rattle.machine_laws.specs.Valid.{IsInHand, IsBegun as InHandBegun}
+use Rattle.machine_core.specs.AnswerView.{ended_kernel, ended_line, finished_by, finished_kernel, HasNoTable}
+use Rattle.machine_core.specs.MethodMachine.{MethodMachine}
+use Rattle.machine_core.specs.MachineView.{machine_of, method_machine_of, queued_in, work_of, step_of, hand_of, IsFit, IsKept, IsBegunHere, IsBegunOn}
+use Rattle.machine_core.specs.Valid.{most_task_steps, change, changed}
 use Rattle.machine_core.proofs.OutcomeLaws.{plain-effect}
-use Rattle.machine_core.proofs.StillLaws.{still-effect, still-finished}
+use Rattle.machine_core.proofs.StillLaws.{IsSteady, steady-effect, steady-finished}
 use Rattle.machine_core.proofs.KeptLaws.{kept-change}
 
 -- The rule that applies.
 
 -- no frame stands and nothing comes
-abbrev pub GoesOn : Machine → Type 0
-GoesOn m = rule Direct m ≡ rule_in_hand m.in_hand m
+abbrev pub GoesOn : Method → Machine → Type 0
+GoesOn d m = rule d m ≡ rule_in_hand m.in_hand m
 
-pub by_rule : (m : Machine) (r : Rule) → rule Direct m ≡ r → change m ≡ done program_serves Direct r m
-by_rule m r e = ap (λ q. done program_serves Direct q m) e
+pub by_rule : (d : Method) (m : Machine) (r : Rule) → rule d m ≡ r → change d m ≡ done program_serves d r m
+by_rule d m r e = ap (λ q. done program_serves d q m) e
 
 -- the first event names the first task
-pub first-change : (m : Machine) → m.begun ≡ false → change m ≡ done program_serves Direct Begins m
-first-change m e = by_rule m Begins (rw e refl)
+pub first-change : (d : Method) (m : Machine) → m.begun ≡ false → change d m ≡ done program_serves d Begins m
+first-change d m e = by_rule d m Begins (rw e refl)
 
-no_post : (b : Bool) → rule_of_post b None ≡ TaskActs
-no_post true = refl
-no_post false = refl
+-- with nothing in hand a post is taken, where one may be
+post_rule : (b : Bool) (later : List Queued) → (b && not (none_waits later)) ≡ true → (q : Queued) × (front later ≡ Some q) × (rule_of_post b (front later) ≡ TakeBegins q)
+post_rule b [] e = absurd (no b e)
+  where
+    no : (b : Bool) → (b && false) ≡ true → ⊥
+    no true h = cc
+    no false h = cc
+post_rule true (q ∷ later) e = (q, refl, refl)
+post_rule false (q ∷ later) e = cc
+
+task_rule : (b : Bool) (later : List Queued) → (b && not (none_waits later)) ≡ false → rule_of_post b (front later) ≡ TaskActs
+task_rule true [] e = refl
+task_rule false [] e = refl
+task_rule true (q ∷ later) e = cc
+task_rule false (q ∷ later) e = refl
+
+-- or else the current task acts
+pub acts-next : (d : Method) (m : Machine) → GoesOn d m → m.in_hand ≡ None → may_take m ≡ false → rule d m ≡ TaskActs
+acts-next d m e none may = e ∙ ap (λ (o : Option WholeStep). rule_in_hand o m) none ∙ task_rule (m.kernel.lock == 0) m.later may
+
+pub takes-next : (d : Method) (m : Machine) → GoesOn d m → m.in_hand ≡ None → may_take m ≡ true → (q : Queued) × (front m.later ≡ Some q) × (rule d m ≡ TakeBegins q)
+takes-next d m e none may =
+    let (q, first, told) = post_rule (m.kernel.lock == 0) m.later may in
+    (q, first, e ∙ ap (λ (o : Option WholeStep). rule_in_hand o m) none ∙ told)
 
 -- which takes one raw step, as a micro-step does
-raw_one : (o : Option WholeStep) (m : Machine) → m.later ≡ [] → raw (rule_in_hand o m) ≡ 1
-raw_one (Some w) m e = refl
-raw_one None m e = rw (e, no_post (m.kernel.lock == 0)) refl
+raw_post : (b : Bool) (o : Option Queued) → raw (rule_of_post b o) ≡ 1
+raw_post true (Some q) = refl
+raw_post true None = refl
+raw_post false o = refl
 
-pub raw-goes_on : (a : Inside) → GoesOn (machine_of a) → raw (rule Direct (machine_of a)) ≡ 1
-raw-goes_on a e = ap raw e ∙ raw_one (hand_of a.in_hand) (machine_of a) refl
+raw_one : (o : Option WholeStep) (m : Machine) → raw (rule_in_hand o m) ≡ 1
+raw_one (Some w) m = refl
+raw_one None m = raw_post (m.kernel.lock == 0) (front m.later)
+
+pub raw-goes_on : (d : Method) (m : Machine) → GoesOn d m → raw (rule d m) ≡ 1
+raw-goes_on d m e = ap raw e ∙ raw_one m.in_hand m
 
 -- with nothing in hand no work was begun
-pub none_begun : (o : Option WorkRecord) (k : Kernel) → hand_of o ≡ None → IsBegunOn o k
-none_begun None k e = tt
-none_begun (Some h) k e = cc
+pub none_begun : (config : Config) (o : Option WorkRecord) (k : Kernel) → hand_of o ≡ None → IsBegunOn config o k
+none_begun config None k e = tt
+none_begun config (Some h) k e = cc
+
+-- the machine with its method
+abbrev pub by_method : Method → Machine → MethodMachine
+by_method d m = record { method = d; state = m }
+
+pub with_method : {m n : Machine} (d : Method) → m ≡ n → by_method d m ≡ by_method d n
+with_method d e = ap (by_method d) e
+
+-- its kernel is still, and its objects are of its kinds
+pub steady_in : (a : Inside) → IsKept a → IsSteady a.kinds a.kernel.state
+steady_in a k = record { still = k.parts.still; kinds = k.parts.kinds }
+
+waits-front : (later : List Queued) (q : Queued) → front later ≡ Some q → none_waits later ≡ false
+waits-front [] q e = cc
+waits-front (p ∷ later) q e = refl
+
+-- a take in hand is that of the first post
+first-of : (b : Bool) (h : WorkRecord) (k : Kernel) (x : ℕ) (later : List Queued) → b ≡ true → InHandBegun (work_of b h) k x later → front later ≡ Some (queued_in h)
+first-of true h k x later e begun = begun.first
+first-of false h k x later e begun = cc
 
 -- The whole step in hand.
 
 -- the work in hand was begun on this kernel
-pub begun_in : (a : Inside) (h : WorkRecord) → IsKept a → a.in_hand ≡ Some h → IsBegunHere h a.kernel.state
-begun_in a h k e = rw e at k.work
+pub begun_in : (a : Inside) (h : WorkRecord) → IsKept a → a.in_hand ≡ Some h → IsBegunHere a.config h a.kernel.state
+begun_in a h k e = rw e at k.parts.work
 
-stands_in : (a : Inside) (h : WorkRecord) → IsKept a → a.in_hand ≡ Some h → IsInHand program_serves a.config (step_of h) a.kernel.state a.current.0 []
+stands_in : (a : Inside) (h : WorkRecord) → IsKept a → a.in_hand ≡ Some h → IsInHand program_serves a.config (step_of h) a.kernel.state a.current.0 a.later.posts
 stands_in a h k e = rw e at k.valid.stands
 
-advanced : (a : Inside) (h : WorkRecord) → GoesOn (machine_of a) → a.in_hand ≡ Some h → change (machine_of a) ≡ advances program_serves (step_of h) (machine_of a)
+advanced : (a : Inside) (h : WorkRecord) → GoesOn a.method (machine_of a) → a.in_hand ≡ Some h → change a.method (machine_of a) ≡ advances program_serves (step_of h) (machine_of a)
 advanced a h r e =
     let hand : (machine_of a).in_hand ≡ Some (step_of h) = ap hand_of e in
-    let micro : rule Direct (machine_of a) ≡ MicroStep (step_of h) = r ∙ ap (λ o. rule_in_hand o (machine_of a)) hand in
-    by_rule (machine_of a) (MicroStep (step_of h)) micro
+    let micro : rule a.method (machine_of a) ≡ MicroStep (step_of h) = r ∙ ap (λ o. rule_in_hand o (machine_of a)) hand in
+    by_rule a.method (machine_of a) (MicroStep (step_of h)) micro
 
 -- what it does in all, as the machine's definition has it
-abbrev effect_in : WorkRecord → Kernel → Effect
-effect_in w k = effect program_serves (call_of w.request w.caller w.compared w.compared) k
+same-call : (b : Bool) (config : Config) (w : WorkRecord) (k : Kernel) → IsFit b config w → (b ≡ true → w.caller ≡ 63) → effect_of w k ≡ whole_effect program_serves config (work_of b w) k
+same-call true config w k fit here = rw (fit.0, here refl, fit.1) refl
+same-call false config w k fit here = rw fit refl
 
-effect-same : (w : WorkRecord) (k : Kernel) → IsBegunHere w k → effect_of w k ≡ effect_in w k
-effect-same w k b = rw b.head refl
+pub effect-same : (config : Config) (w : WorkRecord) (k : Kernel) → IsBegunHere config w k → effect_of w k ≡ whole_effect program_serves config (step_of w).work k
+effect-same config w k b = same-call (w.caller == 63) config w k b.fit (λ e. equal w.caller 63 e)
 
 -- micro-steps are left
-more_left : (w : WorkRecord) (k : Kernel) → IsBegunHere w k → 1 < w.left → (w.done + 1 == cost (effect_in w k) k) ≡ false
-more_left w k b p =
-    let total : w.done + w.left ≡ cost (effect_in w k) k = rw (effect-same w k b) at b.begun.total in
-    ne_eqb (w.done + 1) (cost (effect_in w k) k) (λ (e : w.done + 1 ≡ cost (effect_in w k) k). omega (arith, total, p, e))
+more_left : (config : Config) (w : WorkRecord) (k : Kernel) → IsBegunHere config w k → 1 < w.left → (w.done + 1 == cost (whole_effect program_serves config (step_of w).work k) k) ≡ false
+more_left config w k b p =
+    let total : w.done + w.left ≡ cost (whole_effect program_serves config (step_of w).work k) k = rw (effect-same config w k b) at b.begun.total in
+    ne_eqb (w.done + 1) (cost (whole_effect program_serves config (step_of w).work k) k) (λ (e : w.done + 1 ≡ cost (whole_effect program_serves config (step_of w).work k) k). omega (arith, total, p, e))
 
-none_left : (w : WorkRecord) (k : Kernel) → IsBegunHere w k → w.left ≡ 1 → (w.done + 1 == cost (effect_in w k) k) ≡ true
-none_left w k b p =
-    let total : w.done + w.left ≡ cost (effect_in w k) k = rw (effect-same w k b) at b.begun.total in
-    eq-eqb (w.done + 1) (cost (effect_in w k) k) (omega (arith, total, p))
+none_left : (config : Config) (w : WorkRecord) (k : Kernel) → IsBegunHere config w k → w.left ≡ 1 → (w.done + 1 == cost (whole_effect program_serves config (step_of w).work k) k) ≡ true
+none_left config w k b p =
+    let total : w.done + w.left ≡ cost (whole_effect program_serves config (step_of w).work k) k = rw (effect-same config w k b) at b.begun.total in
+    eq-eqb (w.done + 1) (cost (whole_effect program_serves config (step_of w).work k) k) (omega (arith, total, p))
 
 -- a micro-step that is not the last
-pub more-machine : (a : Inside) (h g : WorkRecord) → IsKept a → GoesOn (machine_of a) → a.in_hand ≡ Some h → 1 < h.left → g ≡ stepped h → machine_of (record a { in_hand = Some g }) ≡ (change (machine_of a)).machine
-more-machine a h g k r e p s =
-    let goes_on : machine_of (record a { in_hand = Some g }) ≡ (advances program_serves (step_of h) (machine_of a)).machine = rw (more_left h a.kernel.state (begun_in a h k e) p, s) refl in
-    goes_on ∙ ap (λ (c : Change). c.machine) (sym (advanced a h r e))
 
-pub more-kept : (a : Inside) (h g : WorkRecord) → IsKept a → GoesOn (machine_of a) → a.in_hand ≡ Some h → a.t < most_task_steps → 1 < h.left → g ≡ stepped h → IsBegunHere g a.kernel.state → IsKept (record a { in_hand = Some g })
-more-kept a h g k r e open_yet p s b = kept-change a (record a { in_hand = Some g }) k open_yet (more-machine a h g k r e p s) k.still b k.vectors
+work-stepped : (b : Bool) (w : WorkRecord) → work_of b (stepped w) ≡ work_of b w
+work-stepped true w = refl
+work-stepped false w = refl
 
--- the last micro-step, by its outcome
+fit-stepped : (b : Bool) (config : Config) (w : WorkRecord) → IsFit b config w → IsFit b config (stepped w)
+fit-stepped true config w f = f
+fit-stepped false config w f = f
 
-ended : (o : Outcome) (k : Kernel) (h : WorkRecord) (a : Inside) (n : KernelRecord) (current : TaskId) → HasNoTable o → h.caller ≡ a.current.0 → n ≡ ended_kernel (with_state a.kernel k) a.current.0 h.request.service o → current.0 ≡ settled_task n.state [] a.current.0
+step-stepped : (h g : WorkRecord) → g ≡ stepped h → step_of g ≡ record { work = (step_of h).work; done = h.done + 1 }
+step-stepped h g s =
+    ap step_of s ∙ ap (λ (w : Work). let x : WholeStep = record { work = w; done = h.done + 1 } in x) (work-stepped (h.caller == 63) h)
+
+more-change : (a : Inside) (h : WorkRecord) → IsKept a → GoesOn a.method (machine_of a) → a.in_hand ≡ Some h → 1 < h.left → change a.method (machine_of a) ≡ record { what = NoLine; machine = record (machine_of a) { in_hand = Some (record { work = (step_of h).work; done = h.done + 1 }) } }
+more-change a h k r e p = advanced a h r e ∙ rw (more_left a.config h a.kernel.state (begun_in a h k e) p) refl
+
+more-state : (a : Inside) (h g : WorkRecord) → IsKept a → GoesOn a.method (machine_of a) → a.in_hand ≡ Some h → 1 < h.left → g ≡ stepped h → machine_of (record a { in_hand = Some g }) ≡ (change a.method (machine_of a)).machine
+more-state a h g k r e p s =
+    ap (λ (w : WholeStep). let m : Machine = record (machine_of a) { in_hand = Some w } in m) (step-stepped h g s) ∙ ap (λ (c : Change). c.machine) (sym (more-change a h k r e p))
+
+pub more-machine : (a : Inside) (h g : WorkRecord) → IsKept a → GoesOn a.method (machine_of a) → a.in_hand ≡ Some h → 1 < h.left → g ≡ stepped h → method_machine_of (record a { in_hand = Some g }) ≡ changed (method_machine_of a)
+more-machine a h g k r e p s = with_method a.method (more-state a h g k r e p s)
+
+pub more-line : (a : Inside) (h : WorkRecord) → IsKept a → GoesOn a.method (machine_of a) → a.in_hand ≡ Some h → 1 < h.left → NoLine ≡ (change a.method (machine_of a)).what
+more-line a h k r e p = ap (λ (c : Change). c.what) (sym (more-change a h k r e p))
+
+pub more-kept : (a : Inside) (h g : WorkRecord) → IsKept a → GoesOn a.method (machine_of a) → a.in_hand ≡ Some h → a.t < most_task_steps → 1 < h.left → g ≡ stepped h → IsBegun g a.kernel.state → IsKept (record a { in_hand = Some g })
+more-kept a h g k r e open_yet p s b =
+    let fits : IsFit (h.caller == 63) a.config h = (begun_in a h k e).fit in
+    kept-change a (record a { in_hand = Some g }) k open_yet (more-machine a h g k r e p s)
+    (record { still = k.parts.still; kinds = k.parts.kinds; work = record { begun = b; fit = subst (λ (x : WorkRecord). IsFit (x.caller == 63) a.config x) (sym s) (fit-stepped (h.caller == 63) a.config h fits) }; size = k.parts.size; vectors = k.parts.vectors })
+
+-- the last micro-step of a call, by its outcome
+
+ended : (o : Outcome) (k : Kernel) (h : WorkRecord) (a : Inside) (n : KernelRecord) (current : TaskId) → HasNoTable o → h.caller ≡ a.current.0 → n ≡ ended_kernel (with_state a.kernel k) a.current.0 h.request.service o → current.0 ≡ settled_task n.state a.later.posts a.current.0
     → machine_of (record a { kernel = n; current = current; in_hand = None; t = a.t + 1 }) ≡ (call_ends h.caller h.request.service o k (machine_of a)).machine
 ended (Answered x taken) k h a n current plain caller e settles = rw (settles, e, caller, plain) refl
 ended Waits k h a n current plain caller e settles = rw (settles, e) refl
@@ -130,30 +209,79 @@ ended-state k x s Waits = refl
 ended-state k x s Gone = refl
 ended-state k x s (Quiet u) = refl
 
-module _ (a : Inside) (h : WorkRecord) (n : KernelRecord) (current : TaskId) (k : IsKept a) (r : GoesOn (machine_of a)) (e : a.in_hand ≡ Some h) (p : h.left ≡ 1)
-    (ends : n ≡ ended_kernel (with_state a.kernel (effect_of h a.kernel.state).kernel) a.current.0 h.request.service (effect_of h a.kernel.state).outcome) (settles : current.0 ≡ settled_task n.state [] a.current.0) where
-  abbrev f : Effect
-  f = effect_in h a.kernel.state
+-- what is told of it
+ended-told : (o : Outcome) (k : Kernel) (h : WorkRecord) (a : Inside) → HasNoTable o → h.caller ≡ a.current.0 → ended_line a.current.0 h.request.service o ≡ (call_ends h.caller h.request.service o k (machine_of a)).what
+ended-told (Answered x taken) k h a plain caller = rw (caller, plain) refl
+ended-told Waits k h a plain caller = rw caller refl
+ended-told Gone k h a plain caller = rw caller refl
+ended-told (Quiet u) k h a plain caller = refl
 
-  b : IsBegunHere h a.kernel.state
+-- a call in hand is the current task's
+caller-of : (b : Bool) (h : WorkRecord) (k : Kernel) (x : ℕ) (later : List Queued) → b ≡ false → InHandBegun (work_of b h) k x later → h.caller ≡ x
+caller-of true h k x later e begun = cc
+caller-of false h k x later e begun = begun.caller
+
+module _ (a : Inside) (h : WorkRecord) (k : IsKept a) (r : GoesOn a.method (machine_of a)) (e : a.in_hand ≡ Some h) (p : h.left ≡ 1) where
+  abbrev f : Effect
+  f = effect_of h a.kernel.state
+
+  b : IsBegunHere a.config h a.kernel.state
   b = begun_in a h k e
 
-  ends_in : n ≡ ended_kernel (with_state a.kernel f.kernel) a.current.0 h.request.service f.outcome
-  ends_in = rw (effect-same h a.kernel.state b) at ends
+  same : f ≡ whole_effect program_serves a.config (step_of h).work a.kernel.state
+  same = effect-same a.config h a.kernel.state b
 
-  pub last-machine : machine_of (record a { kernel = n; current = current; in_hand = None; t = a.t + 1 }) ≡ (change (machine_of a)).machine
-  last-machine =
-      let w = h in
-      let u = stands_in a h k e in
-      ended f.outcome f.kernel h a n current (plain-effect (call_of w.request w.caller w.compared w.compared) a.kernel.state) u.begun.caller ends_in settles
-      ∙ sym (rw (none_left w a.kernel.state b p) refl)
-      ∙ ap (λ (c : Change). c.machine) (sym (advanced a h r e))
+  -- the whole step ends
+  pub last-change : change a.method (machine_of a) ≡ ends (work_of (h.caller == 63) h) f.outcome f.kernel (machine_of a)
+  last-change = advanced a h r e ∙ rw (none_left a.config h a.kernel.state b p) (ap (λ (g : Effect). ends (work_of (h.caller == 63) h) g.outcome g.kernel (machine_of a)) (sym same))
 
-  pub last-kept : a.t < most_task_steps → IsKept (record a { kernel = n; current = current; in_hand = None; t = a.t + 1 })
-  last-kept open_yet =
-      let w = h in
-      let same : n.state ≡ f.kernel = ap (λ (j : KernelRecord). j.state) ends_in ∙ ended-state (with_state a.kernel f.kernel) a.current.0 h.request.service f.outcome in
-      kept-change a (record a { kernel = n; current = current; in_hand = None; t = a.t + 1 }) k open_yet last-machine (rw same (still-effect (call_of w.request w.caller w.compared w.compared) a.kernel.state k.still)) tt k.vectors
+  -- a call
+  module _ (no_take : (h.caller == 63) ≡ false) where
+    call-change : change a.method (machine_of a) ≡ call_ends h.caller h.request.service f.outcome f.kernel (machine_of a)
+    call-change = last-change ∙ ap (λ (c : Bool). ends (work_of c h) f.outcome f.kernel (machine_of a)) no_take
+
+    caller : h.caller ≡ a.current.0
+    caller = caller-of (h.caller == 63) h a.kernel.state a.current.0 a.later.posts no_take (stands_in a h k e).begun
+
+    plain : HasNoTable f.outcome
+    plain = plain-effect (call_of h.request h.caller h.interrupted h.compared) a.kernel.state
+
+    pub call-line : ended_line a.current.0 h.request.service f.outcome ≡ (change a.method (machine_of a)).what
+    call-line = ended-told f.outcome f.kernel h a plain caller ∙ ap (λ (c : Change). c.what) (sym call-change)
+
+    module _ (n : KernelRecord) (current : TaskId) (ends : n ≡ ended_kernel (with_state a.kernel f.kernel) a.current.0 h.request.service f.outcome) (settles : current.0 ≡ settled_task n.state a.later.posts a.current.0) where
+      pub last-machine : method_machine_of (record a { kernel = n; current = current; in_hand = None; t = a.t + 1 }) ≡ changed (method_machine_of a)
+      last-machine = with_method a.method (ended f.outcome f.kernel h a n current plain caller ends settles ∙ ap (λ (c : Change). c.machine) (sym call-change))
+
+      pub last-kept : a.t < most_task_steps → IsKept (record a { kernel = n; current = current; in_hand = None; t = a.t + 1 })
+      last-kept open_yet =
+          let state : n.state ≡ f.kernel = ap (λ (j : KernelRecord). j.state) ends ∙ ended-state (with_state a.kernel f.kernel) a.current.0 h.request.service f.outcome in
+          let steady : IsSteady a.kinds n.state = rw state (steady-effect a.kinds (call_of h.request h.caller h.interrupted h.compared) a.kernel.state (steady_in a k)) in
+          kept-change a (record a { kernel = n; current = current; in_hand = None; t = a.t + 1 }) k open_yet last-machine
+          (record { still = steady.still; kinds = steady.kinds; work = tt; size = k.parts.size; vectors = k.parts.vectors })
+
+  -- a take
+  module _ (takes : (h.caller == 63) ≡ true) where
+    take-change : change a.method (machine_of a) ≡ take_ends (queued_in h) f.outcome f.kernel (machine_of a)
+    take-change = last-change ∙ ap (λ (c : Bool). ends (work_of c h) f.outcome f.kernel (machine_of a)) takes
+
+    pub take-told : (what : What) (again : Bool) → what ≡ (let o = answer_in f.outcome in Take h.request.service (arguments h.request.service h.request.args) (argument_count h.request.service) o.err o.value again)
+        → again ≡ ((a.config.insert == 1) && some_readied h.interrupted a.kernel.state.tasks f.kernel.tasks) → what ≡ (change a.method (machine_of a)).what
+    take-told what again told s = told ∙ rw s refl ∙ ap (λ (c : Change). c.what) (sym take-change)
+
+    module _ (n : KernelRecord) (later : QueueRecord) (current : TaskId) (ends : n ≡ with_state a.kernel f.kernel) (leaves : later ≡ record a.later { posts = without_front a.later.posts }) (settles : current.0 ≡ settled_task n.state later.posts a.current.0) where
+      pub take-machine : method_machine_of (record a { kernel = n; later = later; current = current; in_hand = None }) ≡ changed (method_machine_of a)
+      take-machine = with_method a.method (rw (settles, ends, leaves) refl ∙ ap (λ (c : Change). c.machine) (sym take-change))
+
+      pub take-kept : a.t < most_task_steps → IsKept (record a { kernel = n; later = later; current = current; in_hand = None })
+      take-kept open_yet =
+          let steady : IsSteady a.kinds n.state = rw ends (steady-effect a.kinds (call_of h.request h.caller h.interrupted h.compared) a.kernel.state (steady_in a k)) in
+          kept-change a (record a { kernel = n; later = later; current = current; in_hand = None }) k open_yet take-machine
+          (record { still = steady.still; kinds = steady.kinds; work = tt; size = rw leaves k.parts.size; vectors = k.parts.vectors })
+
+    -- a post waits
+    pub waits-take : none_waits a.later.posts ≡ false
+    waits-take = waits-front a.later.posts (queued_in h) (first-of (h.caller == 63) h a.kernel.state a.current.0 a.later.posts takes (stands_in a h k e).begun)
 
 -- What the current task does.
 
@@ -166,19 +294,49 @@ finished-state : (o : Option Finished) (k : KernelRecord) (x : ℕ) → has_resu
 finished-state None k x e = cc
 finished-state (Some f) k x e = refl
 
-pub finish-machine : (a : Inside) (n : KernelRecord) → rule Direct (machine_of a) ≡ TaskActs → has_result (task_at a.kernel.state a.current.0).answered ≡ true → n ≡ finished_kernel a.kernel a.current.0
-    → ((memory : List ℕ) → with_table (task_at a.kernel.state a.current.0).answered memory ≡ memory) → machine_of (record a { kernel = n; t = a.t + 1 }) ≡ (change (machine_of a)).machine
+pub finish-machine : (a : Inside) (n : KernelRecord) → rule a.method (machine_of a) ≡ TaskActs → has_result (task_at a.kernel.state a.current.0).answered ≡ true → n ≡ finished_kernel a.kernel a.current.0
+    → ((memory : List ℕ) → with_table (task_at a.kernel.state a.current.0).answered memory ≡ memory) → method_machine_of (record a { kernel = n; t = a.t + 1 }) ≡ changed (method_machine_of a)
 finish-machine a n r e kernel no_table =
-    finish-answered a n (task_at a.kernel.state a.current.0).answered e kernel no_table ∙ ap (λ (c : Change). c.machine) (sym (by_rule (machine_of a) TaskActs r))
+    with_method a.method (finish-answered a n (task_at a.kernel.state a.current.0).answered e kernel no_table ∙ ap (λ (c : Change). c.machine) (sym (by_rule a.method (machine_of a) TaskActs r)))
 
-pub finish-still : (a : Inside) (n : KernelRecord) → has_result (task_at a.kernel.state a.current.0).answered ≡ true → n ≡ finished_kernel a.kernel a.current.0 → IsStill a.kernel.state → IsStill n.state
-finish-still a n e kernel s =
+pub finish-steady : (a : Inside) (n : KernelRecord) → IsKept a → has_result (task_at a.kernel.state a.current.0).answered ≡ true → n ≡ finished_kernel a.kernel a.current.0 → IsSteady a.kinds n.state
+finish-steady a n k e kernel =
     let same : n.state ≡ finished a.current.0 a.kernel.state = ap (λ (j : KernelRecord). j.state) kernel ∙ finished-state (task_at a.kernel.state a.current.0).answered a.kernel a.current.0 e in
-    rw same (still-finished a.current.0 a.kernel.state s)
+    rw same (steady-finished a.kinds a.current.0 a.kernel.state (steady_in a k))
 
 -- it has run an instruction
-pub instruct-change : (m : Machine) (x : ℕ) → rule Direct m ≡ TaskActs → m.current ≡ x → (task_at m.kernel x).answered ≡ None → change m ≡ acts program_serves x None m
-instruct-change m x r current answered = by_rule m TaskActs r ∙ rw (current, answered) refl
+pub instruct-change : (d : Method) (m : Machine) (x : ℕ) → rule d m ≡ TaskActs → m.current ≡ x → (task_at m.kernel x).answered ≡ None → change d m ≡ acts program_serves x None m
+instruct-change d m x r current answered = by_rule d m TaskActs r ∙ rw (current, answered) refl
+
+-- nothing is in hand
+pub none-hand : (o : Option WorkRecord) → is_some o ≡ false → hand_of o ≡ None
+none-hand None e = refl
+none-hand (Some h) e = cc
+
+-- the take of the first post begins
+module _ (a : Inside) (k : IsKept a) (r : GoesOn a.method (machine_of a)) (free : hand_of a.in_hand ≡ None) (may : may_take (machine_of a) ≡ true) (s : Service) (args : List ℕ) (saved compared : ℕ) (first : front a.later.posts ≡ Some (record { service = s; args = args; saved = saved })) where
+  taken-rule : rule a.method (machine_of a) ≡ TakeBegins (record { service = s; args = args; saved = saved })
+  taken-rule =
+      let (p, there, told) = takes-next a.method (machine_of a) r free may in
+      let same : p ≡ record { service = s; args = args; saved = saved } = cc in
+      told ∙ ap TakeBegins same
+
+  pub begin-line : (change a.method (machine_of a)).what ≡ NoLine
+  begin-line = ap (λ (c : Change). c.what) (by_rule a.method (machine_of a) (TakeBegins (record { service = s; args = args; saved = saved })) taken-rule)
+
+  module _ (h : WorkRecord) (work : h ≡ begun 63 (post_request s args) saved compared a.kernel.state) where
+    pub begin-machine : method_machine_of (record a { in_hand = Some h }) ≡ changed (method_machine_of a)
+    begin-machine =
+        with_method a.method (rw work refl ∙ ap (λ (c : Change). c.machine) (sym (by_rule a.method (machine_of a) (TakeBegins (record { service = s; args = args; saved = saved })) taken-rule)))
+
+    pub begin-kept : a.t < most_task_steps → compared ≡ handler_compares a.config saved → IsBegun h a.kernel.state → IsKept (record a { in_hand = Some h })
+    begin-kept open_yet c b =
+        kept-change a (record a { in_hand = Some h }) k open_yet begin-machine
+        (record { still = k.parts.still; kinds = k.parts.kinds; work = record { begun = b; fit = rw work (refl, c) }; size = k.parts.size; vectors = k.parts.vectors })
+
+-- no task of the application is the handler
+pub not_handler : (x : ℕ) → x < 60 → (x == 63) ≡ false
+not_handler x p = ne_eqb x 63 (λ (e : x ≡ 63). omega (arith, e, p))
 
 -- an application's task has called
 module _ (a : Inside) (x : ℕ) (p : x < 60) where
@@ -192,8 +350,8 @@ module _ (a : Inside) (x : ℕ) (p : x < 60) where
   called-registers k regs long ran here =
       here ∙ ap (λ (j : KernelRecord). slice_index_or j.registers x no_registers) ran ∙ get_or-set_same a.kernel.registers x e.registers no_registers (omega (arith, long, p))
 
-  pub call-line : (what : What) (r : Request) → e.did ≡ Call → what ≡ called x r → r ≡ request_of program_serves e.registers e.memory → what ≡ (acts program_serves x None (machine_of a)).what
-  call-line what r did told same = told ∙ rw same refl ∙ ap (λ (c : Change). c.what) (sym (call-acts did))
+  pub calls-line : (what : What) (r : Request) → e.did ≡ Call → what ≡ called x r → r ≡ request_of program_serves e.registers e.memory → what ≡ (acts program_serves x None (machine_of a)).what
+  calls-line what r did told same = told ∙ rw same refl ∙ ap (λ (c : Change). c.what) (sym (call-acts did))
 
   pub call-machine : (kernel : KernelRecord) (ram : List ℕ) (r : Request) (prio : ℕ) → e.did ≡ Call → ram ≡ e.memory → kernel ≡ record a.kernel { registers = slice_set a.kernel.registers x e.registers } → r ≡ request_of program_serves e.registers e.memory → prio ≡ prio_of a.kernel.state x
       → record (machine_of a) { kernel = kernel.state; registers = kernel.registers; memory = ram; in_hand = Some (record { work = CallOf x r prio; done = 0 }) } ≡ (acts program_serves x None (machine_of a)).machine
@@ -210,6 +368,6 @@ module _ (a : Inside) (x : ℕ) (p : x < 60) where
       stops ∙ ap (λ (k : KernelRecord). with_state k (stopped x k.state)) was ∙ ap (λ (l : List Registers). let k : KernelRecord = record { state = stopped x a.kernel.state; registers = l } in k) same
 
   pub trap-machine : (kernel ran : KernelRecord) (ram : List ℕ) (current : TaskId) (kind : TrapKind) (pc : ℕ) → e.did ≡ Trap kind pc → ram ≡ e.memory → a.current.0 ≡ x → ran ≡ record a.kernel { registers = slice_set a.kernel.registers x e.registers } → kernel ≡ with_state ran (stopped x ran.state)
-      → current.0 ≡ settled_task kernel.state [] x → machine_of (record a { kernel = kernel; ram = ram; current = current; t = a.t + 1 }) ≡ (acts program_serves x None (machine_of a)).machine
+      → current.0 ≡ settled_task kernel.state a.later.posts x → machine_of (record a { kernel = kernel; ram = ram; current = current; t = a.t + 1 }) ≡ (acts program_serves x None (machine_of a)).machine
   trap-machine kernel ran ram current kind pc did memory here was stops settles =
       rw (settles, trap-kernel kernel ran kind pc did was stops, memory, here, trapped-application x a.kernel.state p) refl ∙ ap (λ (c : Change). c.machine) (sym (trap-acts kind pc did))

@@ -8,7 +8,7 @@ use Rattle.kern_base.specs.declared.requests.Request.{Request}
 use Rattle.kern_base.specs.declared.errors.OsErr.{OsErr}
 use Rattle.kern_base.specs.declared.errors.OsErr.TheVariants.{SemOverflow, SchedLocked, CallUnknown}
 use Rattle.kern_base.specs.declared.outcomes.Waiting.TheVariants.{Obj}
-use Rattle.kern_model.specs.Call.{Call, call_of}
+use Rattle.kern_model.specs.Call.{Call}
 use Rattle.kern_model.specs.State.{Kernel, Content, Count, Messages, Bits, Held, Timed, list_at, object_at, with_content}
 use Rattle.kern_model.specs.Effect.{Effect, refused, done, fine, waits_unless, blocks_on, waits_for}
 use Rattle.kern_model.specs.Checks.{argument, call_error}

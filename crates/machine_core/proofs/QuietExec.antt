@@ -1,6 +1,6 @@
 -- An instruction that is no store keeps the memory.
 use Rattle.std.specs.Prelude.{◌-◌, ◌*◌, ◌%◌, ◌^◌, ◌==◌, not, ℤ}
-use Rattle.std.proofs.Common.{◌≡◌, ℕ, Bool, true, false, List, Option, Some, None, refl}
+use Rattle.std.proofs.Common.{◌≡◌, ℕ, Bool, true, false, List, Option, Some, None, refl, subst}
 use Rattle.rv32_isa.specs.Formats.{unsigned}
 use Rattle.rv32_isa.specs.Decoded.{decoded}
 use Rattle.rv32_isa.specs.declared.Instr.{Instr}
@@ -10,7 +10,8 @@ use Rattle.rv32_exec.specs.Memory.{allowed, loaded, stored}
 use Rattle.rv32_exec.specs.Words.{sum, extended, less, less_signed}
 use Rattle.rv32_exec.specs.Exec.{Execution, Outcome, keeps, traps, goes_on, computes, jumps, branches, loads, loads_signed, stores, acts, obeys, fetched, runs, exec}
 use Rattle.rv32_exec.specs.declared.Stepped.{Stepped}
-use Rattle.rv32_exec.specs.declared.Stepped.TheVariants.{Next, Stored}
+use Rattle.rv32_exec.specs.declared.Stepped.TheVariants.{Next, Call, Trap, Stored}
+use Rattle.rv32_exec.specs.declared.TrapKind.{TrapKind}
 use Rattle.rv32_exec.specs.declared.TrapKind.TheVariants.{Jump, Load, Store}
 use Rattle.kern_model.proofs.Lemmas.{choice}
 
@@ -74,3 +75,16 @@ keeps-runs (Some word) regs memory = keeps-obeys (decoded word) regs memory
 
 pub keeps-exec : (code : List ℕ) (regs : Registers) (memory : List ℕ) → KeepsIf (exec code regs memory).did memory (exec code regs memory).memory
 keeps-exec code regs memory = keeps-runs (fetched code regs.pc) regs memory
+
+-- by what came of it
+quiet : (code : List ℕ) (regs : Registers) (memory : List ℕ) (did : Stepped) → (exec code regs memory).did ≡ did → KeepsIf did memory (exec code regs memory).memory
+quiet code regs memory did same = subst (λ (d : Stepped). KeepsIf d memory (exec code regs memory).memory) same (keeps-exec code regs memory)
+
+pub quiet-next : (code : List ℕ) (regs : Registers) (memory : List ℕ) → (exec code regs memory).did ≡ Next → (exec code regs memory).memory ≡ memory
+quiet-next code regs memory did = quiet code regs memory Next did
+
+pub quiet-call : (code : List ℕ) (regs : Registers) (memory : List ℕ) → (exec code regs memory).did ≡ Call → (exec code regs memory).memory ≡ memory
+quiet-call code regs memory did = quiet code regs memory Call did
+
+pub quiet-trap : (code : List ℕ) (regs : Registers) (memory : List ℕ) (kind : TrapKind) (pc : ℕ) → (exec code regs memory).did ≡ Trap kind pc → (exec code regs memory).memory ≡ memory
+quiet-trap code regs memory kind pc did = quiet code regs memory (Trap kind pc) did

@@ -1,14 +1,21 @@
 -- The machine at its start.
 use Rattle.std.specs.Prelude.{length, map, All, ◌==◌}
-use Rattle.std.proofs.Common.{◌≡◌, ◌<◌, ◌≤◌, ℕ, ◌+◌, ◌*◌, true, false, List, [], ◌∷◌, None, inl, inr, refl, sym, ap, subst, arith}
+use Rattle.std.proofs.Common.{◌≡◌, ◌<◌, ◌≤◌, ℕ, ◌+◌, ◌*◌, true, false, List, [], ◌∷◌, None, inl, inr, refl, sym, ap, ◌∙◌, subst, arith}
 use Rattle.std.proofs.lemmas.List.{length-map}
 use Rattle.std.proofs.lemmas.List.Elements.{All-nil, All-cons, All-head, All-tail}
 use Rattle.std.proofs.lemmas.Bool.{false≢true}
 use Rattle.kern_base.specs.declared.kinds.Method.TheVariants.{Direct}
-use Rattle.kern_model.specs.State.{pick}
+use Rattle.kern_base.specs.declared.kinds.Method.{Method}
+use Rattle.kern_base.specs.declared.kinds.Kind.{Kind}
+use Rattle.kern_base.specs.declared.kinds.Kind.TheVariants.{Sem, Queue, Flags, Mutex, OneShot, Periodic}
+use Rattle.kern_base.specs.Tables.{KindTable}
+use Rattle.kern_model.specs.State.{Object, kind_of, kinds_of, pick}
+use Rattle.kern_model.specs.Start.{start_state, content_of, object_of}
 use Rattle.kern_model.specs.Services.{program_serves}
 use Rattle.kern_model.proofs.Lemmas.{choice, equal, or_either}
-use Rattle.app_image.specs.Image.{ImageRecord, IsValidImage, IsValidVector}
+use Rattle.app_image.specs.Image.{ImageRecord, IsValidImage, IsValidVector, kind_table}
+use Rattle.app_image.specs.declared.records.ObjDef.{ObjDef}
+use Rattle.deferred_queue.specs.QueueRecord.{QueueRecord}
 use Rattle.app_image.specs.declared.records.VectorDef.{VectorDef}
 use Rattle.app_image.specs.Layout.{HasWords}
 use Rattle.inject_list.specs.Lists.{ListRecord, IsValidList, IsInjection, is_declared, most_entries}
@@ -25,6 +32,7 @@ use Rattle.machine_core.specs.declared.machine.Machine.TheInside.{Inside}
 use Rattle.machine_core.specs.MachineView.{machine_of, hand_of, IsKept, HasVectors}
 use Rattle.machine_core.specs.Valid.{IsStill, most_task_steps, most_events}
 use Rattle.machine_core.proofs.MachineFacts.{none_begun}
+use Rattle.machine_core.proofs.CurrentLaws.{pick-below}
 
 -- The interrupts.
 
@@ -75,32 +83,55 @@ few-start image list h l =
     let entries = entries-le (length m.interrupts) image.config.isr_limit (omega (arith, many, few)) h.config.isr_limit_high in
     omega (arith, entries, few)
 
-pub valid-loaded : (image : ImageRecord) (list : ListRecord) (m : Machine) → IsValidImage image → HasWords image → IsValidList image list → m ≡ start image list → IsValidMachine program_serves Direct m
-valid-loaded image list m h words l e = subst (IsValidMachine program_serves Direct) (sym e) (valid-start_machine program_serves Direct image list h words l)
+pub valid-loaded : (d : Method) (image : ImageRecord) (list : ListRecord) (m : Machine) → IsValidImage image → HasWords image → IsValidList image list → m ≡ start image list → IsValidMachine program_serves d m
+valid-loaded d image list m h words l e = subst (IsValidMachine program_serves d) (sym e) (valid-start_machine program_serves d image list h words l)
 
-pub kept-loaded : (image : ImageRecord) (list : ListRecord) (a : Inside) → IsValidImage image → HasWords image → IsValidList image list → machine_of a ≡ start image list → IsKept a
-kept-loaded image list a h words l e =
+-- the kinds of the objects are those that the image declares
+kind-content : (kind : Kind) (fields : List ℕ) → kind_of (content_of kind fields) ≡ kind
+kind-content Sem fields = refl
+kind-content Queue fields = refl
+kind-content Flags fields = refl
+kind-content Mutex fields = refl
+kind-content OneShot fields = refl
+kind-content Periodic fields = refl
+
+kinds-objects : (ds : List ObjDef) → map (λ (b : Object). kind_of b.content) (map object_of ds) ≡ map (λ o. o.kind) ds
+kinds-objects [] = refl
+kinds-objects (d ∷ ds) = rw (kind-content d.kind d.f, kinds-objects ds) refl
+
+kinds-start : (image : ImageRecord) → kinds_of (start_state image) ≡ kind_table image
+kinds-start image = ap (λ kinds. let t : KindTable = record { objects = kinds; tasks = length image.tasks } in t) (kinds-objects image.objects)
+
+pub kept-loaded : (image : ImageRecord) (list : ListRecord) (a : Inside) → IsValidImage image → HasWords image → IsValidList image list → machine_of a ≡ start image list → a.kinds ≡ kind_table image → a.later.size ≡ image.config.defer_size → IsKept a
+kept-loaded image list a h words l e kinds size =
     let s : a.s ≡ 0 = ap (λ (m : Machine). m.s) e in
     let t : a.t ≡ 0 = ap (λ (m : Machine). m.t) e in
     let none : hand_of a.in_hand ≡ None = ap (λ (m : Machine). m.in_hand) e in
     let still : IsStill (start image list).kernel = record { tick_signals = refl; timer_signals = refl; processing = refl; lock = refl } in
+    let first = pick-below (start_state image) (valid-start_machine program_serves Direct image list h words l).kernel in
+    let current : a.current.0 < 64 = subst (λ (m : Machine). m.current < 64) (sym e) first in
     let few : events_left most_task_steps (machine_of a) ≤ most_events = subst (λ (m : Machine). events_left most_task_steps m ≤ most_events) (sym e) (few-start image list h l) in
     record {
-      valid = valid-loaded image list (machine_of a) h words l e;
-      still = subst (λ (m : Machine). IsStill m.kernel) (sym e) still;
-      work = none_begun a.in_hand a.kernel.state none;
+      valid = valid-loaded a.method image list (machine_of a) h words l e;
+      parts = record {
+        still = subst (λ (m : Machine). IsStill m.kernel) (sym e) still;
+        kinds = ap (λ (m : Machine). kinds_of m.kernel) e ∙ kinds-start image ∙ sym kinds;
+        work = none_begun a.config a.in_hand a.kernel.state none;
+        size = size ∙ ap (λ (m : Machine). m.config.defer_size) (sym e);
+        vectors = vectors-start image list a.frames h l (ap (λ (m : Machine). m.frames) e) (ap (λ (m : Machine). m.interrupts) e);
+      };
+      current = current;
       within = omega (arith, t);
-      vectors = vectors-start image list a.frames h l (ap (λ (m : Machine). m.frames) e) (ap (λ (m : Machine). m.interrupts) e);
       few = omega (arith, few, s);
     }
 
 -- it is loaded part by part
 module _ (image : ImageRecord) (list : ListRecord) (a : Inside) (kernel : a.kernel ≡ start_of image) (ram : a.ram ≡ filled image.ram) (current : a.current.0 ≡ pick a.kernel.state) (frames : a.frames ≡ record { frames = []; waiting = numbered 0 (interrupts_of image list) })
-    (none : hand_of a.in_hand ≡ None) (code : a.program ≡ image.code) (config : a.config ≡ image.config) (no_look : list.looks ≡ []) (begun : a.begun ≡ false) (s : a.s ≡ 0) (t : a.t ≡ 0) where
+    (later : a.later ≡ record { posts = []; size = image.config.defer_size }) (kinds : a.kinds ≡ kind_table image) (none : hand_of a.in_hand ≡ None) (code : a.program ≡ image.code) (config : a.config ≡ image.config) (no_look : list.looks ≡ []) (begun : a.begun ≡ false) (s : a.s ≡ 0) (t : a.t ≡ 0) where
   pub loaded : machine_of a ≡ start image list
   loaded =
       let is : interrupts a.frames ≡ interrupts_of image list = interrupts-new (interrupts_of image list) a.frames frames in
-      rw (is, current, kernel, ram, frames, none, code, config, no_look, begun, s, t) refl
+      rw (is, current, kernel, ram, frames, later, none, code, config, no_look, begun, s, t) refl
 
   pub loaded-kept : IsValidImage image → HasWords image → IsValidList image list → IsKept a
-  loaded-kept h words l = kept-loaded image list a h words l loaded
+  loaded-kept h words l = kept-loaded image list a h words l loaded kinds (ap (λ (q : QueueRecord). q.size) later)

@@ -2,8 +2,9 @@
 use Rattle.std.specs.Prelude.{drop, option_map, slice_get, IfSome, ◌-◌, ◌^◌}
 use Rattle.std.proofs.Common.{◌≡◌, ◌<◌, ◌+◌, ◌∙◌, ℕ, false, List, [], ◌∷◌, Some, refl, ap}
 use Rattle.kern_base.specs.declared.services.Service.{Service}
-use Rattle.kern_base.specs.declared.services.Service.TheVariants.{SemPost}
-use Rattle.kern_model.specs.State.{Kernel}
+use Rattle.kern_base.specs.declared.services.Service.TheVariants.{SemPost, SemPend}
+use Rattle.kern_base.specs.declared.outcomes.Answer.{Answer}
+use Rattle.kern_base.specs.Tables.{KindTable}
 use Rattle.kern_base.specs.Services.{service_of}
 use Rattle.rv32_exec.specs.Registers.{Registers, read}
 use Rattle.rv32_exec.specs.Exec.{exec}
@@ -11,7 +12,7 @@ use Rattle.machine_model.specs.Frames.{FrameRecord, Interrupt, none_stands}
 use Rattle.machine_model.specs.Interrupts.{argument_words, ran}
 use Rattle.isr_nesting.specs.Nest.{Nest}
 use Rattle.isr_nesting.specs.FrameView.{with_top}
-use Rattle.machine_core.specs.FrameCalls.{FrameCall, called_by, task_below, top_of, top_called}
+use Rattle.machine_core.specs.FrameCalls.{FrameCall, called_by, top_of, top_called}
 
 pub stands-top : (fs : List FrameRecord) → none_stands fs ≡ false → fs ≡ top_of fs ∷ drop 1 fs
 stands-top [] s = cc
@@ -25,11 +26,6 @@ of-top g (f ∷ fs) x s e = cc
 pub room-top : (fs : List FrameRecord) → (top_of fs).used < 2 ^ 32 - 1 → IfSome (slice_get fs 0) (λ f. f.used < 2 ^ 32 - 1)
 room-top [] h = tt
 room-top (f ∷ fs) h = h
-
--- the call of a frame whose registers are these
-called-same : (s : Service) (args : List ℕ) (f : FrameRecord) (regs : Registers) (p : ℕ) (k : Kernel) → called_by s args (record f { registers = regs }) regs p k ≡ called_by s args f regs p k
-called-same SemPost args f regs p k = refl
-called-same _ args f regs p k = refl
 
 -- the top frame is changed
 with_top-of : (g : FrameRecord → FrameRecord) (fs : List FrameRecord) → none_stands fs ≡ false → with_top g fs ≡ g (top_of fs) ∷ drop 1 fs
@@ -64,14 +60,17 @@ module _ (f : FrameRecord) (regs : Registers) (below : List FrameRecord) (waitin
   pub left : (m : Nest) → m ≡ record n { frames = drop 1 n.frames } → m ≡ record { frames = below; waiting = waiting }
   left m e = e ∙ rw ran_is refl
 
-  pub left-task : (k : Kernel) (x current : ℕ) → current ≡ task_below (drop 1 n.frames) k x → current ≡ task_below below k x
-  left-task k x current e = e ∙ rw ran_is refl
-
   -- or it calls
-  pub called-is : (p : ℕ) (k : Kernel) → top_called n.frames p k ≡ called_by (service_of (read regs 17)) (argument_words regs) f regs p k
-  called-is p k = ap (λ (m : Nest). top_called m.frames p k) ran_is ∙ called-same (service_of (read regs 17)) (argument_words regs) f regs p k
+  module _ {X : Type 0} (way : Service → List ℕ → X → Answer × X) (kinds : KindTable) (x : X) where
+    called-same : (s : Service) (args : List ℕ) → called_by way kinds s args (record f { registers = regs }) regs x ≡ called_by way kinds s args f regs x
+    called-same SemPost args = refl
+    called-same SemPend args = refl
+    called-same _ args = refl
 
-  pub called-nest : (p : ℕ) (k : Kernel) (m : Nest) → m ≡ record n { frames = (top_called n.frames p k).frame ∷ drop 1 n.frames } → m ≡ record { frames = (called_by (service_of (read regs 17)) (argument_words regs) f regs p k).frame ∷ below; waiting = waiting }
-  called-nest p k m e =
-      e ∙ ap (λ (c : FrameCall). record n { frames = c.frame ∷ drop 1 n.frames }) (called-is p k)
-      ∙ ap (λ (q : Nest). let r : Nest = record { frames = (called_by (service_of (read regs 17)) (argument_words regs) f regs p k).frame ∷ drop 1 q.frames; waiting = q.waiting } in r) ran_is
+    pub called-is : top_called way kinds n.frames x ≡ called_by way kinds (service_of (read regs 17)) (argument_words regs) f regs x
+    called-is = ap (λ (m : Nest). top_called way kinds m.frames x) ran_is ∙ called-same (service_of (read regs 17)) (argument_words regs)
+
+    pub called-nest : (m : Nest) → m ≡ record n { frames = (top_called way kinds n.frames x).frame ∷ drop 1 n.frames } → m ≡ record { frames = (called_by way kinds (service_of (read regs 17)) (argument_words regs) f regs x).frame ∷ below; waiting = waiting }
+    called-nest m e =
+        e ∙ ap (λ (c : FrameCall X). record n { frames = c.frame ∷ drop 1 n.frames }) called-is
+        ∙ ap (λ (q : Nest). let r : Nest = record { frames = (called_by way kinds (service_of (read regs 17)) (argument_words regs) f regs x).frame ∷ drop 1 q.frames; waiting = q.waiting } in r) ran_is

@@ -1,4 +1,7 @@
+pub mod MethodMachine
 pub mod Valid
 pub mod AnswerView
 pub mod MachineView
+pub mod Posts
 pub mod FrameCalls
+pub mod IsrStep

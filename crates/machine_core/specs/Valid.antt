@@ -1,11 +1,18 @@
 -- What the machine keeps true of itself between two events, while it runs semaphores alone.
-use Rattle.std.specs.Prelude.{◌≡◌, ℕ, ◌^◌, false}
-use Rattle.kern_base.specs.declared.kinds.Method.TheVariants.{Direct}
+use Rattle.std.specs.Prelude.{◌≡◌, ℕ, ◌^◌, Bool, true, false}
+use Rattle.kern_base.specs.declared.kinds.Method.{Method}
+use Rattle.kern_base.specs.declared.kinds.Method.TheVariants.{Direct, Deferred}
 use Rattle.kern_model.specs.State.{Kernel}
 use Rattle.kern_model.specs.Services.{program_serves}
 use Rattle.machine_model.specs.Machine.{Machine}
 use Rattle.machine_model.specs.Answers.{Change}
 use Rattle.machine_model.specs.Rules.{rule, done}
+use Rattle.machine_core.specs.MethodMachine.{MethodMachine}
+
+-- whether posts act at once
+abbrev pub is_direct : Method → Bool
+is_direct Direct = true
+is_direct Deferred = false
 
 -- how many task steps a machine may do
 abbrev pub most_task_steps : ℕ
@@ -22,6 +29,10 @@ pub record IsStill (k : Kernel) : Type 0 where
   pub processing : k.processing ≡ false
   pub lock : k.lock ≡ 0
 
--- what happens next, but for the raw steps
-abbrev pub change : Machine → Change
-change m = done program_serves Direct (rule Direct m) m
+-- what happens next by this method, but for the raw steps
+abbrev pub change : Method → Machine → Change
+change d m = done program_serves d (rule d m) m
+
+-- the machine after it
+abbrev pub changed : MethodMachine → MethodMachine
+changed m = record m { state = (change m.method m.state).machine }

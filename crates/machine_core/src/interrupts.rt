@@ -1,36 +1,26 @@
-// What interrupt code does: an interrupt enters, its frame runs one instruction, a frame leaves.
+// Interrupts enter, and frames of interrupt code run and leave.
 
-ghost use Rattle.std.specs.Prelude.{◌≡◌, ◌==◌, ◌<◌, ◌-◌, ◌^◌, ◌∷◌, [], drop, false, Some, option_map, IsSomeAnd};
-ghost use Rattle.kern_base.specs.Numbers.{leave};
-ghost use Rattle.kern_base.specs.Services.{service_of};
-ghost use Rattle.kern_base.specs.declared.kinds.Method.TheVariants.{Direct};
-ghost use Rattle.kern_base.specs.declared.services.Service.TheVariants.{SemPost};
-ghost use Rattle.rv32_exec.specs.Registers.{read};
-ghost use Rattle.kernel_calls.specs.KernelRecord.{with_state};
+ghost use Rattle.std.specs.Prelude.{◌≡◌, ◌<◌, ◌-◌, ◌^◌, ◌∷◌, drop, false, Some, option_map, IsSomeAnd};
 ghost use Rattle.machine_model.specs.Frames.{entered, level_of, none_stands};
-ghost use Rattle.isr_nesting.specs.FrameView.{mark_list};
 ghost use Rattle.machine_model.specs.Due.{is_step};
-ghost use Rattle.isr_nesting.specs.Nest.{waiting_at, without_number};
-ghost use Rattle.machine_model.specs.Marks.{next_instruction, marks_after};
-ghost use Rattle.machine_model.specs.declared.events.What.TheVariants.{Irq, ICall};
-ghost use Rattle.machine_model.specs.Interrupts.{argument_words};
+ghost use Rattle.machine_model.specs.Marks.{reads_result};
 ghost use Rattle.machine_model.specs.Rules.{rule, FrameRuns};
-ghost use Rattle.machine_core.specs.FrameCalls.{task_below, top_of, top_calls, top_called, refused_frame};
-ghost use Rattle.machine_core.specs.Valid.{most_task_steps, change};
+ghost use Rattle.machine_model.specs.declared.events.What.TheVariants.{Irq};
+ghost use Rattle.kern_model.specs.Services.{program_serves};
+ghost use Rattle.isr_nesting.specs.Nest.{waiting_at, without_number};
+ghost use Rattle.machine_model.specs.Machine.{Machine as State};
+ghost use Rattle.machine_core.specs.FrameCalls.{task_below, top_of};
+ghost use Rattle.machine_core.specs.IsrStep.{HasParts, IsStepBy};
+ghost use Rattle.machine_core.specs.Valid.{most_task_steps, change, changed};
 
+use crate::frame_steps::{frame_step, isr_step_into};
 use crate::tasks::settle;
-use crate::{How, Machine, What};
+use crate::{Machine, What};
+use deferred_queue::DeferredQueue;
 use isr_nesting::Frames;
-use kern_base::{Answer, LEAVE, OsErr, Post, Prio, Service, TaskId};
+use kern_base::{Kinds, Method, Prio, TaskId};
 use kernel_calls::Kernel;
-use rv32_exec::Stepped;
-
-const A0: u8 = 10;
-
-const A7: u8 = 17;
-
-// The stores of a frame name its vector behind this number.
-const FIRST_VECTOR: u8 = 64;
+use rv32_exec::{Program, Ram};
 
 // An interrupt that may enter does.
 pub(crate) fn enter(frames: &mut Frames, number: usize, locked: bool, line: &mut What)
@@ -49,162 +39,76 @@ pub(crate) fn enter(frames: &mut Frames, number: usize, locked: bool, line: &mut
     };
 }
 
-// The top frame leaves, while nothing is in hand. The task that is then current: where no other frame
-// stands, the machine settles.
-pub(crate) fn leave(frames: &mut Frames, kernel: &Kernel, current: TaskId) -> TaskId
-    requires { none_stands frames.old.frames ≡ false }
-    ensures frames { frames.new ≡ record frames.old { frames = drop 1 frames.old.frames } }
-    ensures current { result.0 ≡ task_below (drop 1 frames.old.frames) kernel.now.state current.0 }
+// The current task once these frames stand: where no frame does and nothing is in hand, the machine settles.
+pub(crate) fn below(
+    frames: &Frames,
+    free: bool,
+    kernel: &Kernel,
+    later: &DeferredQueue,
+    current: TaskId,
+) -> TaskId
+    ensures { result.0 ≡ task_below frames.now.frames free kernel.now.state later.now.posts current.0 }
 {
-    frames.leave();
     match frames.top() {
-        Some(_) => current,
-        None => settle(kernel, current),
+        None if free => settle(kernel, later, current),
+        _ => current,
     }
 }
 
-// Whether the top frame has returned.
-fn has_returned(frames: &Frames) -> bool
-    requires { none_stands frames.now.frames ≡ false }
-    ensures { result ≡ ((top_of frames.now.frames).registers.pc == leave) }
-{
-    match frames.top() {
-        Some(frame) => frame.regs.pc() == LEAVE,
-        None => false,
-    }
-}
-
-// The service that the top frame has called, and the words of its arguments.
-fn called(frames: &Frames) -> (Service, [u32; 4])
-    requires { none_stands frames.now.frames ≡ false }
-    ensures service { result.0 ≡ service_of (read (top_of frames.now.frames).registers 17) }
-    ensures arguments { result.1 ≡ argument_words (top_of frames.now.frames).registers }
-{
-    let Some(frame) = frames.top() else {
-        unreachable!();
-    };
-    let regs = &frame.regs;
-    let args = [
-        regs.get(A0),
-        regs.get(A0 + 1),
-        regs.get(A0 + 2),
-        regs.get(A0 + 3),
-    ];
-    (Service::of(regs.get(A7)), args)
-}
-
-// The top frame, of this vector, posts to a semaphore.
-fn post(
-    frames: &mut Frames,
-    kernel: &mut Kernel,
-    vector: u8,
-    args: [u32; 4],
+// One instruction of the top frame by a method, while a task of this priority is current. Tells whether it read a
+// register with a mark.
+fn frame_step_by(
+    method: Method,
+    program: &Program,
+    kinds: &Kinds,
     prio: Prio,
+    frames: &mut Frames,
+    ram: &mut Ram,
+    kernel: &mut Kernel,
+    later: &mut DeferredQueue,
     line: &mut What,
-)
+) -> bool
     requires stands { none_stands frames.old.frames ≡ false }
     requires room { (top_of frames.old.frames).used < 2 ^ 32 - 1 }
-    requires vector { (top_of frames.old.frames).vector ≡ vector }
-    ensures line { line.new ≡ (top_calls SemPost args frames.old.frames prio.0 kernel.old.state).what }
-    ensures kernel { kernel.new ≡ with_state kernel.old (top_calls SemPost args frames.old.frames prio.0 kernel.old.state).kernel }
-    ensures frames { frames.new ≡ record frames.old { frames = (top_calls SemPost args frames.old.frames prio.0 kernel.old.state).frame ∷ drop 1 frames.old.frames } }
+    requires low { (top_of frames.old.frames).vector < 32 }
+    requires blank { line.old ≡ What.Quiet }
+    ensures rule { (m : State) → HasParts m program.now kinds.now prio.0 frames.old ram.old later.old → kernel.old.state ≡ m.kernel
+        → IsStepBy method m line.new frames.old frames.new ram.new later.new kernel.old kernel.new }
+    ensures size { later.new.size ≡ later.old.size }
+    ensures marked { result ≡ reads_result program_serves program.now (top_of frames.old.frames) }
 {
-    let service = Service::SemPost;
-    let answer = kernel.post_now(Post { service, args }, prio);
-    frames.answer_top(answer);
-    frames.mark_result();
-    let [object, opt, _, _] = args;
-    *line = What::Post {
-        vector,
-        service,
-        args: [object, opt, 0, 0],
-        n_args: 2,
-        err: answer.err,
-        value: answer.value,
-    };
-}
-
-// Any other call of the top frame, of this vector, is refused.
-fn refuse(frames: &mut Frames, vector: u8, service: Service, err: OsErr, line: &mut What)
-    requires stands { none_stands frames.old.frames ≡ false }
-    requires room { (top_of frames.old.frames).used < 2 ^ 32 - 1 }
-    requires vector { (top_of frames.old.frames).vector ≡ vector }
-    ensures line { line.new ≡ ICall vector service err }
-    ensures frames { frames.new ≡ record frames.old { frames = refused_frame err (top_of frames.old.frames) (top_of frames.old.frames).registers ∷ drop 1 frames.old.frames } }
-{
-    let answer = Answer {
-        err,
-        value: 0,
-        extra: 0,
-    };
-    frames.answer_top(answer);
-    *line = What::ICall {
-        vector,
-        service,
-        err,
-    };
-}
-
-// The top frame, of this vector, has called, while a task of this priority is current.
-fn call(frames: &mut Frames, kernel: &mut Kernel, vector: u8, prio: Prio, line: &mut What)
-    requires stands { none_stands frames.old.frames ≡ false }
-    requires room { (top_of frames.old.frames).used < 2 ^ 32 - 1 }
-    requires vector { (top_of frames.old.frames).vector ≡ vector }
-    ensures line { line.new ≡ (top_called frames.old.frames prio.0 kernel.old.state).what }
-    ensures kernel { kernel.new ≡ with_state kernel.old (top_called frames.old.frames prio.0 kernel.old.state).kernel }
-    ensures frames { frames.new ≡ record frames.old { frames = (top_called frames.old.frames prio.0 kernel.old.state).frame ∷ drop 1 frames.old.frames } }
-{
-    let (service, args) = called(frames);
-    match service {
-        Service::SemPost => post(frames, kernel, vector, args, prio, line),
-        Service::SemPend => refuse(frames, vector, service, OsErr::PendIsr, line),
-        _ => refuse(frames, vector, service, OsErr::CallUnknown, line),
+    match method {
+        Method::Direct => frame_step(program, kinds, prio, frames, ram, kernel, line),
+        Method::Deferred => isr_step_into(program, kinds, prio, frames, ram, later, line),
     }
 }
 
 impl Machine {
-    // The top frame, of this vector, runs one instruction, which leaves these marks.
-    pub(crate) fn run_frame(&mut self, vector: u8, marks: u8, line: &mut What)
-        requires rule { rule Direct self.old ≡ FrameRuns (top_of self.old.frames) (drop 1 self.old.frames) }
-        requires stands { none_stands self.old.frames ≡ false }
-        requires room { (top_of self.old.frames).used < 2 ^ 32 - 1 }
-        requires vector { (top_of self.old.frames).vector ≡ vector }
-        requires low { vector < 32 }
-        requires marks { mark_list marks ≡ marks_after (next_instruction self.old.code (top_of self.old.frames).registers) (top_of self.old.frames).marks }
-        requires open_yet { self.old.t < most_task_steps }
+    // The top frame runs one instruction. Tells whether it read a register with a mark.
+    pub(crate) fn run_frame(&mut self, line: &mut What) -> bool
+        requires rule { rule self.old.method self.old.state ≡ FrameRuns (top_of self.old.state.frames) (drop 1 self.old.state.frames) }
+        requires stands { none_stands self.old.state.frames ≡ false }
+        requires room { (top_of self.old.state.frames).used < 2 ^ 32 - 1 }
+        requires open_yet { self.old.state.t < most_task_steps }
         requires blank { line.old ≡ What.Quiet }
-        ensures line { line.new ≡ (change self.old).what }
-        ensures machine { self.new ≡ (change self.old).machine }
+        ensures line { line.new ≡ (change self.old.method self.old.state).what }
+        ensures marked { result ≡ reads_result program_serves self.old.state.code (top_of self.old.state.frames) }
+        ensures machine { self.new ≡ changed self.old }
     {
-        match self.frames.run_top(&self.program, &mut self.ram) {
-            Stepped::Next if has_returned(&self.frames) => {
-                self.current = leave(&mut self.frames, &self.kernel, self.current);
-                *line = What::Exit {
-                    vector,
-                    how: How::Ret,
-                };
-            }
-            Stepped::Next => self.frames.count_top(marks),
-            Stepped::Stored { addr, width, value } => {
-                self.frames.count_top(marks);
-                *line = What::St {
-                    who: FIRST_VECTOR + vector,
-                    addr,
-                    width,
-                    value,
-                };
-            }
-            Stepped::Call => {
-                let prio = self.kernel.tcb(self.current).prio;
-                call(&mut self.frames, &mut self.kernel, vector, prio, line);
-            }
-            Stepped::Trap(kind, pc) => {
-                self.current = leave(&mut self.frames, &self.kernel, self.current);
-                *line = What::Exit {
-                    vector,
-                    how: How::Trap(kind, pc),
-                };
-            }
-        }
+        let prio = self.kernel.tcb(self.current).prio;
+        let free = self.in_hand.is_none();
+        let marked = frame_step_by(
+            self.method,
+            &self.program,
+            &self.kinds,
+            prio,
+            &mut self.frames,
+            &mut self.ram,
+            &mut self.kernel,
+            &mut self.later,
+            line,
+        );
+        self.current = below(&self.frames, free, &self.kernel, &self.later, self.current);
+        marked
     }
 }

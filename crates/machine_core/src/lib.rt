@@ -1,11 +1,15 @@
-//! The machine: tasks, the kernel, memory and interrupt code, which posts at once, and what happens next.
-//! One call of [`Machine::step`] is one event.
+//! The machine: tasks, the kernel, memory and interrupt code, which posts at once or through a queue, and what
+//! happens next. One call of [`Machine::step`] is one event.
 #![tactic(auto)]
 
 mod answers;
+mod frame_steps;
 mod interrupts;
 mod machine;
+mod posts;
+mod takes;
 mod tasks;
 
+pub use frame_steps::{isr_step, isr_step_into};
 pub use machine::Machine;
 pub use machine_model::{Event, How, What};

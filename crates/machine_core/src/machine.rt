@@ -1,37 +1,44 @@
 // The machine and its events.
 
-ghost use Rattle.std.specs.Prelude.{◌≡◌, ◌<◌, ℕ, true, [], All, IfOk};
-ghost use Rattle.kern_base.specs.declared.kinds.Method.TheVariants.{Direct};
+ghost use Rattle.std.specs.Prelude.{◌≡◌, ◌<◌, ◌≤◌, ◌&&◌, not, ℕ, true, [], All, IfOk, length, map};
 ghost use Rattle.kern_model.specs.Services.{program_serves};
+ghost use Rattle.app_image.specs.Image.{kind_table};
 ghost use Rattle.inject_list.specs.Lists.{IsValidList};
 ghost use Rattle.machine_model.specs.Machine.{start};
-ghost use Rattle.machine_model.specs.Rules.{next, rule, rule_of_frames, marks, switch_of};
+ghost use Rattle.machine_model.specs.Rules.{rule, rule_of_frames, marks, may_take, switch_of};
 ghost use Rattle.machine_model.specs.Bound.{events_left};
 ghost use Rattle.machine_model.specs.Text.{IsPrintable};
 ghost use Rattle.machine_laws.specs.Valid.{IsValidMachine};
-ghost use Rattle.machine_core.specs.Valid.{most_task_steps, change};
+ghost use Rattle.machine_core.specs.MethodMachine.{next_event, next_machine};
+ghost use Rattle.machine_core.specs.Valid.{is_direct, most_task_steps, change};
 
-use crate::interrupts::{enter, leave};
+use crate::interrupts::{below, enter};
 use crate::{Event, How, What};
-use app_image::{Config, Image};
+use app_image::{Config, Image, ObjDef};
+use arrayvec::ArrayVec;
+use deferred_queue::DeferredQueue;
 use inject_list::InjectList;
 use isr_nesting::Frames;
-use kern_base::{NoMemory, TaskId};
+use kern_base::{Kind, Kinds, Method, NoMemory, TaskId};
 use kernel_calls::{Kernel, Work};
 use rv32_exec::{Program, Ram};
 use std::alloc::Global;
 use std::marker::Model;
 
-/// The machine that runs an application and its recorded interrupts: its tasks' registers, the kernel,
-/// the memory, the frames of interrupt code and the counts of steps. All its memory is taken by `load`.
+/// The machine that runs an application and its recorded interrupts by one of the two posting methods: its tasks'
+/// registers, the kernel, the memory, the frames of interrupt code, the posts that wait and the counts of steps.
+/// All its memory is taken by `load`.
 #[derive(Drop)]
 pub struct Machine {
+    pub(crate) method: Method,
     pub(crate) kernel: Kernel,
+    pub(crate) kinds: Kinds,
     pub(crate) ram: Ram,
     pub(crate) program: Program,
     pub(crate) config: Config,
     pub(crate) current: TaskId,
     pub(crate) frames: Frames,
+    pub(crate) later: DeferredQueue,
     pub(crate) in_hand: Option<Work>,
     pub(crate) begun: bool,
     pub(crate) s: u64,
@@ -39,27 +46,55 @@ pub struct Machine {
 }
 
 impl Model for Machine {
-    ghost use Rattle.machine_model.specs.Machine.{Machine as State};
+    ghost use Rattle.machine_core.specs.MethodMachine.{MethodMachine};
 
-    ghost Value = { State };
+    ghost Value = { MethodMachine };
 
-    ghost use Rattle.machine_core.specs.MachineView.{machine_of, IsKept};
+    ghost use Rattle.machine_core.specs.MachineView.{method_machine_of, IsKept};
 
-    ghost view = { machine_of };
+    ghost view = { method_machine_of };
 
     ghost invariant = { IsKept };
 }
 
+// The kinds of the objects, in order.
+fn kinds_in(objects: &[ObjDef]) -> ArrayVec<Kind, 64>
+    requires { length objects.now ≤ 64 }
+    ensures { result.items ≡ map (λ o. o.kind) objects.now }
+{
+    let mut kinds = ArrayVec::new();
+    for object in objects {
+        kinds.push(object.kind);
+    }
+    kinds
+}
+
+// What the static checks of a call look at.
+fn kinds_of(image: &Image) -> Kinds
+    ensures { result ≡ kind_table image.now }
+{
+    let tasks = image.kinds().tasks();
+    Kinds::new(kinds_in(image.objects()), tasks)
+}
+
 impl Machine {
-    /// The machine at the start of a run of this application with these interrupts, and no look.
-    pub fn load(alloc: Global, image: &Image, list: &InjectList) -> Result<Machine, NoMemory>
+    /// The machine at the start of a run of this application by this method with these interrupts, and no look.
+    pub fn load(
+        alloc: Global,
+        image: &Image,
+        list: &InjectList,
+        method: Method,
+    ) -> Result<Machine, NoMemory>
         requires list { IsValidList image.now list.now }
         requires no_look { list.now.looks ≡ [] }
-        ensures start { IfOk result (λ m. m ≡ start image.now list.now) }
-        ensures valid { IfOk result (IsValidMachine program_serves Direct) }
+        ensures method { IfOk result (λ m. m.method ≡ method) }
+        ensures start { IfOk result (λ m. m.state ≡ start image.now list.now) }
+        ensures valid { IfOk result (λ m. IsValidMachine program_serves m.method m.state) }
     {
+        let config = image.config();
         let kernel = Kernel::new(alloc, image)?;
         let frames = Frames::new(alloc, list, image)?;
+        let later = DeferredQueue::new(alloc, config.defer_size as u16)?;
         let Ok(ram) = Ram::new(alloc, image.ram()) else {
             return Err(NoMemory);
         };
@@ -68,12 +103,15 @@ impl Machine {
         };
         let current = kernel.pick();
         Ok(Machine {
+            method,
             kernel,
+            kinds: kinds_of(image),
             ram,
             program,
-            config: image.config(),
+            config,
             current,
             frames,
+            later,
             in_hand: None,
             begun: false,
             s: 0,
@@ -83,13 +121,13 @@ impl Machine {
 
     /// The next event. It takes no memory.
     pub fn step(&mut self) -> Event
-        requires { self.old.t < most_task_steps }
-        ensures event { result ≡ (next program_serves Direct self.old).0 }
+        requires { self.old.state.t < most_task_steps }
+        ensures event { result ≡ next_event self.old }
         ensures printable { IsPrintable result.what }
-        ensures machine { self.new ≡ (next program_serves Direct self.old).1 }
+        ensures machine { self.new ≡ next_machine self.old }
 
         // Fewer events are left to any later number of task steps.
-        ensures fewer { (n : ℕ) → self.old.t < n → events_left n self.new < events_left n self.old }
+        ensures fewer { (n : ℕ) → self.old.state.t < n → events_left n self.new.state < events_left n self.old.state }
     {
         let mut event = Event {
             s: 0,
@@ -104,13 +142,13 @@ impl Machine {
 
     /// The next event, written over an older one, whatever that was. It takes no memory.
     pub fn step_into(&mut self, event: &mut Event)
-        requires { self.old.t < most_task_steps }
-        ensures event { event.new ≡ (next program_serves Direct self.old).0 }
+        requires { self.old.state.t < most_task_steps }
+        ensures event { event.new ≡ next_event self.old }
         ensures printable { IsPrintable event.new.what }
-        ensures machine { self.new ≡ (next program_serves Direct self.old).1 }
+        ensures machine { self.new ≡ next_machine self.old }
 
         // Fewer events are left to any later number of task steps.
-        ensures fewer { (n : ℕ) → self.old.t < n → events_left n self.new < events_left n self.old }
+        ensures fewer { (n : ℕ) → self.old.state.t < n → events_left n self.new.state < events_left n self.old.state }
     {
         let before = self.current;
         event.s = self.s;
@@ -130,38 +168,61 @@ impl Machine {
 
     /// The task steps so far.
     pub fn task_steps(&self) -> u32
-        ensures { result ≡ self.now.t }
+        ensures { result ≡ self.now.state.t }
     {
         self.t
     }
 
     /// The raw steps so far.
     pub fn raw_steps(&self) -> u64
-        ensures { result ≡ self.now.s }
+        ensures { result ≡ self.now.state.s }
     {
         self.s
     }
 
     /// The kernel.
     pub fn kernel(&self) -> &Kernel
-        ensures state { result.now.state ≡ self.now.kernel }
-        ensures registers { result.now.registers ≡ self.now.registers }
+        ensures state { result.now.state ≡ self.now.state.kernel }
+        ensures registers { result.now.registers ≡ self.now.state.registers }
     {
         &self.kernel
+    }
+
+    // Whether the handler may take a post: one waits, and the scheduler is not locked.
+    pub(crate) fn may_take(&self) -> bool
+        ensures { result ≡ may_take self.now.state }
+    {
+        !self.later.is_empty() && self.kernel.lock() == 0
+    }
+
+    // Whether interrupts are held off: under the direct method, while a whole step is in hand.
+    fn is_masked(&self, free: bool) -> bool
+        ensures { result ≡ (not free && is_direct self.now.method) }
+    {
+        !free && matches!(self.method, Method::Direct)
+    }
+
+    // Whether nothing is in hand and no post can be taken.
+    fn is_quiet(&self, free: bool) -> bool
+        ensures { result ≡ (free && not (may_take self.now.state)) }
+    {
+        free && !self.may_take()
     }
 
     // What happens after the first event, and whether interrupt code reads a register with a mark: an
     // interrupt that is due enters, which takes no raw step, or else what is there goes on.
     fn go_on(&mut self, line: &mut What) -> bool
-        requires begun { self.old.begun ≡ true }
-        requires open_yet { self.old.t < most_task_steps }
+        requires begun { self.old.state.begun ≡ true }
+        requires open_yet { self.old.state.t < most_task_steps }
         requires blank { line.old ≡ What.Quiet }
-        ensures line { line.new ≡ (change self.old).what }
-        ensures marked { result ≡ marks program_serves (rule Direct self.old) self.old }
-        ensures machine { self.new ≡ (next program_serves Direct self.old).1 }
+        ensures line { line.new ≡ (change self.old.method self.old.state).what }
+        ensures marked { result ≡ marks program_serves (rule self.old.method self.old.state) self.old.state }
+        ensures machine { self.new ≡ next_machine self.old }
     {
         let free = self.in_hand.is_none();
-        match self.frames.due(!free, free, self.s, self.t) {
+        let masked = self.is_masked(free);
+        let quiet = self.is_quiet(free);
+        match self.frames.due(masked, quiet, self.s, self.t) {
             Some(number) => {
                 let locked = self.kernel.lock() > 0;
                 enter(&mut self.frames, number, locked, line);
@@ -174,12 +235,12 @@ impl Machine {
     // No interrupt is due: the top frame leaves at its limit, which takes no raw step, or it runs one
     // instruction; where no frame stands, tasks work.
     fn proceed(&mut self, line: &mut What) -> bool
-        requires rule { rule Direct self.old ≡ rule_of_frames self.old.frames self.old }
-        requires open_yet { self.old.t < most_task_steps }
+        requires rule { rule self.old.method self.old.state ≡ rule_of_frames self.old.state.frames self.old.state }
+        requires open_yet { self.old.state.t < most_task_steps }
         requires blank { line.old ≡ What.Quiet }
-        ensures line { line.new ≡ (change self.old).what }
-        ensures marked { result ≡ marks program_serves (rule Direct self.old) self.old }
-        ensures machine { self.new ≡ (next program_serves Direct self.old).1 }
+        ensures line { line.new ≡ (change self.old.method self.old.state).what }
+        ensures marked { result ≡ marks program_serves (rule self.old.method self.old.state) self.old.state }
+        ensures machine { self.new ≡ next_machine self.old }
     {
         let Some(frame) = self.frames.top() else {
             self.work(line);
@@ -187,15 +248,16 @@ impl Machine {
         };
         let vector = frame.vector;
         if frame.used >= self.config.isr_limit {
-            self.current = leave(&mut self.frames, &self.kernel, self.current);
+            let free = self.in_hand.is_none();
+            self.frames.leave();
+            self.current = below(&self.frames, free, &self.kernel, &self.later, self.current);
             *line = What::Exit {
                 vector,
                 how: How::Limit,
             };
             return false;
         }
-        let (marked, marks) = self.frames.marks_ahead(&self.program);
-        self.run_frame(vector, marks, line);
+        let marked = self.run_frame(line);
         self.s += 1;
         marked
     }

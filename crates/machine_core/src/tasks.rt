@@ -1,18 +1,20 @@
 // What tasks do: the whole step in hand, and the acts of the current task.
 
-ghost use Rattle.std.specs.Prelude.{◌≡◌, ◌<◌, ℕ, true, [], IsSome, None};
-ghost use Rattle.kern_base.specs.declared.kinds.Method.TheVariants.{Direct};
+ghost use Rattle.std.specs.Prelude.{◌≡◌, ◌==◌, ◌<◌, ℕ, true, false, [], IsSome, IsSomeAnd, None};
 ghost use Rattle.kern_model.specs.State.{task_at, is_ready};
 ghost use Rattle.kern_model.specs.Services.{program_serves};
 ghost use Rattle.kernel_calls.specs.KernelRecord.{KernelRecord};
 ghost use Rattle.machine_model.specs.Settling.{settled_task};
 ghost use Rattle.machine_model.specs.Acts.{acts};
-ghost use Rattle.machine_model.specs.Rules.{next, rule, rule_in_hand, TaskActs};
+ghost use Rattle.machine_model.specs.Rules.{rule, rule_in_hand, TaskActs};
+ghost use Rattle.machine_core.specs.MethodMachine.{next_machine};
 ghost use Rattle.machine_core.specs.AnswerView.{ended_kernel, ended_line, HasNoTable};
-ghost use Rattle.machine_core.specs.Valid.{most_task_steps, change};
+ghost use Rattle.machine_core.specs.Valid.{most_task_steps, change, changed};
 
 use crate::answers::{answer, call_line, finish, request_in};
+use crate::takes::{perform, take_line};
 use crate::{Machine, What};
+use deferred_queue::DeferredQueue;
 use kern_base::{Outcome, Service, TaskId};
 use kernel_calls::{Kernel, Progress};
 use rv32_exec::Stepped;
@@ -20,35 +22,62 @@ use rv32_exec::Stepped;
 const IDLE: u8 = 62;
 
 impl Machine {
-    // No frame stands: a micro-step of the whole step in hand, or else the current task acts. It takes one
+    // No frame stands: a micro-step of the whole step in hand, or else what else there is to do. It takes one
     // raw step.
     pub(crate) fn work(&mut self, line: &mut What)
-        requires rule { rule Direct self.old ≡ rule_in_hand self.old.in_hand self.old }
-        requires open_yet { self.old.t < most_task_steps }
+        requires rule { rule self.old.method self.old.state ≡ rule_in_hand self.old.state.in_hand self.old.state }
+        requires open_yet { self.old.state.t < most_task_steps }
         requires blank { line.old ≡ What.Quiet }
-        ensures line { line.new ≡ (change self.old).what }
-        ensures machine { self.new ≡ (next program_serves Direct self.old).1 }
+        ensures line { line.new ≡ (change self.old.method self.old.state).what }
+        ensures machine { self.new ≡ next_machine self.old }
     {
         if self.in_hand.is_some() {
             self.advance(line);
         } else {
-            self.act(line);
+            self.begin(line);
         }
         self.s += 1;
     }
 
+    // Nothing is in hand: the take of a post begins, or else the current task acts.
+    fn begin(&mut self, line: &mut What)
+        requires rule { rule self.old.method self.old.state ≡ rule_in_hand self.old.state.in_hand self.old.state }
+        requires free { self.old.state.in_hand ≡ None }
+        requires open_yet { self.old.state.t < most_task_steps }
+        requires blank { line.old ≡ What.Quiet }
+        ensures line { line.new ≡ (change self.old.method self.old.state).what }
+        ensures machine { self.new ≡ changed self.old }
+    {
+        if self.may_take() {
+            self.begin_take();
+        } else {
+            self.act(line);
+        }
+    }
+
     // One micro-step of the whole step in hand.
     fn advance(&mut self, line: &mut What)
-        requires rule { rule Direct self.old ≡ rule_in_hand self.old.in_hand self.old }
-        requires some { IsSome self.old.in_hand }
-        requires open_yet { self.old.t < most_task_steps }
+        requires rule { rule self.old.method self.old.state ≡ rule_in_hand self.old.state.in_hand self.old.state }
+        requires some { IsSome self.old.state.in_hand }
+        requires open_yet { self.old.state.t < most_task_steps }
         requires blank { line.old ≡ What.Quiet }
-        ensures line { line.new ≡ (change self.old).what }
-        ensures machine { self.new ≡ (change self.old).machine }
+        ensures line { line.new ≡ (change self.old.method self.old.state).what }
+        ensures machine { self.new ≡ changed self.old }
     {
         let Some(work) = &mut self.in_hand else {
             return;
         };
+        if work.is_take() {
+            let literal = self.config.insert == 1;
+            let (progress, same) = perform(&mut self.kernel, work, literal);
+            if let Progress::Done(outcome) = progress {
+                take_line(work, outcome, same, line);
+                self.in_hand = None;
+                self.later.drop_front();
+                self.current = settle(&self.kernel, &self.later, self.current);
+            }
+            return;
+        }
         match self.kernel.advance(work) {
             Progress::More => {}
             Progress::Done(outcome) => {
@@ -56,7 +85,7 @@ impl Machine {
                 self.in_hand = None;
                 end(&mut self.kernel, self.current, service, outcome, line);
                 self.t += 1;
-                self.current = settle(&self.kernel, self.current);
+                self.current = settle(&self.kernel, &self.later, self.current);
             }
         }
     }
@@ -64,11 +93,11 @@ impl Machine {
     // The current task acts: it reads the result that waits for it, or runs one instruction; the idle
     // task does nothing.
     fn act(&mut self, line: &mut What)
-        requires rule { rule Direct self.old ≡ TaskActs }
-        requires open_yet { self.old.t < most_task_steps }
+        requires rule { rule self.old.method self.old.state ≡ TaskActs }
+        requires open_yet { self.old.state.t < most_task_steps }
         requires blank { line.old ≡ What.Quiet }
-        ensures line { line.new ≡ (change self.old).what }
-        ensures machine { self.new ≡ (change self.old).machine }
+        ensures line { line.new ≡ (change self.old.method self.old.state).what }
+        ensures machine { self.new ≡ changed self.old }
     {
         let task = self.current;
         if self.kernel.tcb(task).result.is_some() {
@@ -85,15 +114,15 @@ impl Machine {
 
     // The current task, which is an application's, runs one instruction.
     fn instruct(&mut self, task: TaskId, line: &mut What)
-        requires rule { rule Direct self.old ≡ TaskActs }
-        requires current { self.old.current ≡ task.0 }
-        requires reads { (task_at self.old.kernel task.0).answered ≡ None }
+        requires rule { rule self.old.method self.old.state ≡ TaskActs }
+        requires current { self.old.state.current ≡ task.0 }
+        requires reads { (task_at self.old.state.kernel task.0).answered ≡ None }
         requires application { task.0 < 60 }
-        requires ready { is_ready (task_at self.old.kernel task.0) ≡ true }
-        requires open_yet { self.old.t < most_task_steps }
+        requires ready { is_ready (task_at self.old.state.kernel task.0) ≡ true }
+        requires open_yet { self.old.state.t < most_task_steps }
         requires blank { line.old ≡ What.Quiet }
-        ensures line { line.new ≡ (acts program_serves task.0 None self.old).what }
-        ensures machine { self.new ≡ (acts program_serves task.0 None self.old).machine }
+        ensures line { line.new ≡ (acts program_serves task.0 None self.old.state).what }
+        ensures machine { self.new ≡ record self.old { state = (acts program_serves task.0 None self.old.state).machine } }
     {
         match self.kernel.run_task(task, &self.program, &mut self.ram) {
             Stepped::Next => self.t += 1,
@@ -116,18 +145,18 @@ impl Machine {
             Stepped::Trap(kind, pc) => {
                 self.kernel.stop(task);
                 self.t += 1;
-                self.current = settle(&self.kernel, task);
+                self.current = settle(&self.kernel, &self.later, task);
                 *line = What::Trap { task, kind, pc };
             }
         }
     }
 }
 
-// Unless the scheduler is locked, the task that it picks becomes the current one.
-pub(crate) fn settle(kernel: &Kernel, current: TaskId) -> TaskId
-    ensures { result.0 ≡ settled_task kernel.now.state [] current.0 }
+// Unless the scheduler is locked or a post waits, the task that the scheduler picks becomes the current one.
+pub(crate) fn settle(kernel: &Kernel, later: &DeferredQueue, current: TaskId) -> TaskId
+    ensures { result.0 ≡ settled_task kernel.now.state later.now.posts current.0 }
 {
-    if kernel.lock() == 0 {
+    if later.is_empty() && kernel.lock() == 0 {
         kernel.pick()
     } else {
         current

@@ -1,7 +1,8 @@
 // The records of all tasks.
 
-ghost use Rattle.std.specs.Prelude.{◌≡◌, ◌<◌, ◌≤◌, ◌++◌, length, map, drop, All, slice_set, slice_index_or};
-ghost use Rattle.kern_model.specs.State.{no_task};
+ghost use Rattle.std.specs.Prelude.{◌≡◌, ◌<◌, ◌≤◌, ◌++◌, ◌==◌, ◌&&◌, not, length, map, drop, All, List, slice_set, slice_index_or};
+ghost use Rattle.kern_model.specs.State.{Task, no_task, is_ready};
+ghost use Rattle.machine_model.specs.Steps.{some_readied};
 ghost use Rattle.tcb_pool.specs.TaskView.{task_of};
 ghost use Rattle.rv32_exec.specs.Exec.{exec};
 ghost use Rattle.rv32_exec.specs.Registers.{no_registers};
@@ -120,6 +121,43 @@ fn place(records: &mut [Tcb], defs: &[TaskDef], quanta: u32)
     }
 }
 
+// Whether a task is alive, waits for nothing and is not suspended.
+fn is_ready(tcb: &Tcb) -> bool
+    ensures { result ≡ is_ready (task_of tcb.now) }
+{
+    tcb.alive && matches!(tcb.wait, Waiting::No) && tcb.suspended == 0
+}
+
+// Writes which of as many records are ready.
+fn mark_ready(ready: &mut [bool], records: &[Tcb])
+    requires { length records.now ≡ length ready.old }
+    ensures { ready.new ≡ map is_ready (map task_of records.now) }
+{
+    for (index, tcb) in records.iter().enumerate() {
+        ready[index] = is_ready(tcb);
+    }
+}
+
+// Whether a record of this priority is ready, and was not.
+fn readied(was_ready: bool, tcb: &Tcb, prio: Prio) -> bool
+    ensures { result ≡ (not was_ready && (is_ready (task_of tcb.now) && ((task_of tcb.now).prio == prio.0))) }
+{
+    !was_ready && is_ready(tcb) && tcb.prio == prio
+}
+
+// Whether some record of this priority is ready that was not.
+fn some_readied(before: &[bool], records: &[Tcb], prio: Prio) -> bool
+    requires { length before.now ≡ length records.now }
+    ensures { (tasks : List Task) → before.now ≡ map is_ready tasks → result ≡ some_readied prio.0 tasks (map task_of records.now) }
+{
+    for (index, tcb) in records.iter().enumerate() {
+        if readied(before[index], tcb, prio) {
+            return true;
+        }
+    }
+    false
+}
+
 impl Tcbs {
     /// The records at the start: the application tasks in declared order, then numbers without a
     /// task, and from 60 on the tick task, the timer task, the idle task and the handler.
@@ -174,5 +212,21 @@ impl Tcbs {
         ensures { self.new ≡ record self.old { registers = slice_set self.old.registers task.0 regs } }
     {
         self.records[task.0 as usize].regs = regs;
+    }
+
+    /// Which tasks are ready, by number.
+    pub fn ready(&self) -> [bool; 64]
+        ensures { result ≡ map is_ready self.now.tasks }
+    {
+        let mut ready = [false; 64];
+        mark_ready(&mut ready, &self.records);
+        ready
+    }
+
+    /// Whether a task of this priority is ready that was not: `before` tells which were.
+    pub fn has_readied(&self, before: &[bool; 64], prio: Prio) -> bool
+        ensures { (tasks : List Task) → before.now ≡ map is_ready tasks → result ≡ some_readied prio.0 tasks self.now.tasks }
+    {
+        some_readied(before, &self.records, prio)
     }
 }

@@ -21,38 +21,38 @@ pub returns-then-is_fine-clause-kernel : goal.returns-then-is_fine-clause-kernel
 returns-then-is_fine-clause-kernel c =
     λ a. c.set_count.ensures.counted
     ∙ ap (λ k. with_state c.args.self.now k)
-    (done-counted c.in-Done.answer c.args.request.now c.args.caller.0 c.args.head.0 c.args.self.now.state (sym c.is_fine.ensures ∙ c.if-is_fine.true)
-    ∙ kernel-known (call_of c.args.request.now c.args.caller.0 a c.args.head.0) c.args.self.now.state (Done c.in-Done.answer) (sym c.decide.ensures ∙ c.in-Done.is))
+    (done-counted c.in-Done.answer c.args.request.now c.args.caller.0 c.args.compared.0 c.args.self.now.state (sym c.is_fine.ensures ∙ c.if-is_fine.true)
+    ∙ kernel-known (call_of c.args.request.now c.args.caller.0 a c.args.compared.0) c.args.self.now.state (Done c.in-Done.answer) (sym c.decide.ensures ∙ c.in-Done.is))
 
 pub returns-then-is_fine-clause-outcome : goal.returns-then-is_fine-clause-outcome
 returns-then-is_fine-clause-outcome c =
-    λ a. outcome-known (call_of c.args.request.now c.args.caller.0 a c.args.head.0) c.args.self.now.state (Done c.in-Done.answer) (sym c.decide.ensures ∙ c.in-Done.is)
+    λ a. outcome-known (call_of c.args.request.now c.args.caller.0 a c.args.compared.0) c.args.self.now.state (Done c.in-Done.answer) (sym c.decide.ensures ∙ c.in-Done.is)
 
 pub returns-else-is_fine-clause-kernel : goal.returns-else-is_fine-clause-kernel
 returns-else-is_fine-clause-kernel c =
     λ a. ap (λ k. with_state c.args.self.now k)
-    (done-kept c.in-Done.answer c.args.request.now c.args.caller.0 c.args.head.0 c.args.self.now.state (sym c.is_fine.ensures ∙ c.if-is_fine.false)
-    ∙ kernel-known (call_of c.args.request.now c.args.caller.0 a c.args.head.0) c.args.self.now.state (Done c.in-Done.answer) (sym c.decide.ensures ∙ c.in-Done.is))
+    (done-kept c.in-Done.answer c.args.request.now c.args.caller.0 c.args.compared.0 c.args.self.now.state (sym c.is_fine.ensures ∙ c.if-is_fine.false)
+    ∙ kernel-known (call_of c.args.request.now c.args.caller.0 a c.args.compared.0) c.args.self.now.state (Done c.in-Done.answer) (sym c.decide.ensures ∙ c.in-Done.is))
 
 pub returns-else-is_fine-clause-outcome : goal.returns-else-is_fine-clause-outcome
 returns-else-is_fine-clause-outcome c =
-    λ a. outcome-known (call_of c.args.request.now c.args.caller.0 a c.args.head.0) c.args.self.now.state (Done c.in-Done.answer) (sym c.decide.ensures ∙ c.in-Done.is)
+    λ a. outcome-known (call_of c.args.request.now c.args.caller.0 a c.args.compared.0) c.args.self.now.state (Done c.in-Done.answer) (sym c.decide.ensures ∙ c.in-Done.is)
 
 pub returns-in-Block-clause-kernel : goal.returns-in-Block-clause-kernel
 returns-in-Block-clause-kernel c =
     λ a. c.block.ensures.blocked
-    ∙ ap (λ k. with_state c.args.self.now k) (kernel-known (call_of c.args.request.now c.args.caller.0 a c.args.head.0) c.args.self.now.state Block (sym c.decide.ensures ∙ c.in-Block.is))
+    ∙ ap (λ k. with_state c.args.self.now k) (kernel-known (call_of c.args.request.now c.args.caller.0 a c.args.compared.0) c.args.self.now.state Block (sym c.decide.ensures ∙ c.in-Block.is))
 
 pub returns-in-Block-clause-outcome : goal.returns-in-Block-clause-outcome
 returns-in-Block-clause-outcome c =
-    λ a. outcome-known (call_of c.args.request.now c.args.caller.0 a c.args.head.0) c.args.self.now.state Block (sym c.decide.ensures ∙ c.in-Block.is)
+    λ a. outcome-known (call_of c.args.request.now c.args.caller.0 a c.args.compared.0) c.args.self.now.state Block (sym c.decide.ensures ∙ c.in-Block.is)
 
 pub returns-in-Wake-clause-kernel : goal.returns-in-Wake-clause-kernel
 returns-in-Wake-clause-kernel c =
     λ a. c.wake_waiters.ensures.woken
-    ∙ ap (λ b. with_state c.args.self.now (wakes_all (posted_result (slice_index c.args.request.now.args 0) (fine 0)) c.args.head.0 (chosen b (list_at c.args.self.now.state.pend (slice_index c.args.request.now.args 0))) c.args.self.now.state)) c.is_all.ensures
-    ∙ ap (λ k. with_state c.args.self.now k) (kernel-known (call_of c.args.request.now c.args.caller.0 a c.args.head.0) c.args.self.now.state (Wake c.in-Wake.who) (sym c.decide.ensures ∙ c.in-Wake.is))
+    ∙ ap (λ b. with_state c.args.self.now (wakes_all (posted_result (slice_index c.args.request.now.args 0) (fine 0)) c.args.compared.0 (chosen b (list_at c.args.self.now.state.pend (slice_index c.args.request.now.args 0))) c.args.self.now.state)) c.is_all.ensures
+    ∙ ap (λ k. with_state c.args.self.now k) (kernel-known (call_of c.args.request.now c.args.caller.0 a c.args.compared.0) c.args.self.now.state (Wake c.in-Wake.who) (sym c.decide.ensures ∙ c.in-Wake.is))
 
 pub returns-in-Wake-clause-outcome : goal.returns-in-Wake-clause-outcome
 returns-in-Wake-clause-outcome c =
-    λ a. ap answers c.success.ensures ∙ outcome-known (call_of c.args.request.now c.args.caller.0 a c.args.head.0) c.args.self.now.state (Wake c.in-Wake.who) (sym c.decide.ensures ∙ c.in-Wake.is)
+    λ a. ap answers c.success.ensures ∙ outcome-known (call_of c.args.request.now c.args.caller.0 a c.args.compared.0) c.args.self.now.state (Wake c.in-Wake.who) (sym c.decide.ensures ∙ c.in-Wake.is)

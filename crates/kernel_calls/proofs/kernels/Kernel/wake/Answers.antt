@@ -24,7 +24,7 @@ pub invariant_of-self : goal.invariant_of-self
 invariant_of-self c =
     record {
       valid = subst IsLinked (grind (arith, common_steps))
-          (linked-wakes (state_of c.self.inside) c.self.invariant.valid c.args.task c.requires.application semaphore_result c.args.head.0 (rw (← c.self.view_is) at c.requires.waits));
+          (linked-wakes (state_of c.self.inside) c.self.invariant.valid c.args.task c.requires.application semaphore_result c.args.compared.0 (rw (← c.self.view_is) at c.requires.waits));
       served = served-task (state_of c.self.inside) _ c.args.task (answered_task semaphore_result) (omega (arith, c.self.invariant.valid.sizes.tasks)) c.answer_task.ensures.tasks (λ t h. tt) (λ t h. record { service = refl; no_table = refl }) c.self.invariant.served;
     }
 

@@ -26,7 +26,7 @@ loop-task-init c =
 
 pub loop-task-preserved : goal.loop-task-preserved
 loop-task-preserved c =
-    let next = woken_next (posted_result c.args.object (fine 0)) _ c.args.head.0 _ c.loop-task.task-index c.loop-task.self.state c.wake.new.self.state _ c.loop-task-test.true c.loop-task.invariant.waiting c.loop-task.invariant.woken
+    let next = woken_next (posted_result c.args.object (fine 0)) _ c.args.compared.0 _ c.loop-task.task-index c.loop-task.self.state c.wake.new.self.state _ c.loop-task-test.true c.loop-task.invariant.waiting c.loop-task.invariant.woken
     (ap (λ (k : KernelRecord). k.state) c.wake.ensures.woken) (c.wake.ensures.result c.args.object) in
     record {
       waiting = next.0;

@@ -1,73 +1,212 @@
-use Rattle.std.proofs.Common.{◌≡◌, ◌<◌, ◌∙◌, Some, ap, arith}
+use Rattle.std.proofs.Common.{◌≡◌, ◌<◌, ◌∙◌, Some, ap, sym, arith, true, false}
+use Rattle.std.specs.Prelude.{◌==◌}
 use Rattle.kernel_calls.specs.KernelRecord.{with_state}
-use Rattle.kernel_calls.specs.Works.{WorkRecord, effect_of}
+use Rattle.kernel_calls.specs.Works.{WorkRecord, effect_of, stepped}
 use Rattle.kern_model.specs.Call.{call_of}
 use Rattle.machine_core.specs.AnswerView.{ended_kernel}
-use Rattle.machine_core.specs.MachineView.{machine_of, IsBegunHere}
+use Rattle.machine_core.specs.MachineView.{machine_of}
 use Rattle.machine_core.proofs.OutcomeLaws.{plain-effect}
-use Rattle.machine_core.proofs.MachineFacts.{GoesOn, begun_in, more-machine, more-kept, last-machine, last-kept}
+use Rattle.machine_core.proofs.MachineFacts.{GoesOn, begun_in, more-machine, more-line, more-kept, call-line, last-machine, last-kept, take-told, take-machine, take-kept, waits-take}
 use Rattle.machine_core.proofs.machine.Machine.advance.Goals as goal
 
--- micro-steps are left, so the whole step stays in hand
-pub invariant_of-self-in-More : goal.invariant_of-self-in-More
-invariant_of-self-in-More c =
-    let held : c.self.inside.in_hand ≡ Some c.in-Some.work = cc in
-    let goes : GoesOn (machine_of c.self.inside) = rw (← c.self.view_is) at c.requires.rule in
-    let open_yet : c.self.inside.t < 1000000 = rw (← c.self.view_is) at c.requires.open_yet in
-    let b = begun_in c.self.inside c.in-Some.work c.self.invariant held in
-    let other : c.in-Some.work.left ≡ 1 → ⊥ = λ e. let d = c.advance.ensures.done e in cc in
-    let more : 1 < c.in-Some.work.left = omega (arith, b.begun.open_yet, other) in
-    let begun : IsBegunHere c.advance.new.work c.self.inside.kernel.state = record { begun = rw (c.advance.ensures.kept more) at c.advance.ensures.begun more; head = rw c.advance.ensures.counted b.head } in
-    rw (c.advance.ensures.kept more) (more-kept c.self.inside c.in-Some.work c.advance.new.work c.self.invariant goes held open_yet more c.advance.ensures.counted begun)
+-- a micro-step of a take, after which others are left
 
-pub returns-in-More-clause-machine : goal.returns-in-More-clause-machine
-returns-in-More-clause-machine c =
-    let held : c.self.inside.in_hand ≡ Some c.in-Some.work = cc in
-    let goes : GoesOn (machine_of c.self.inside) = rw (← c.self.view_is) at c.requires.rule in
-    let b = begun_in c.self.inside c.in-Some.work c.self.invariant held in
-    let other : c.in-Some.work.left ≡ 1 → ⊥ = λ e. let d = c.advance.ensures.done e in cc in
-    let more : 1 < c.in-Some.work.left = omega (arith, b.begun.open_yet, other) in
-    rw (c.advance.ensures.kept more, ← c.self.view_is) (more-machine c.self.inside c.in-Some.work c.advance.new.work c.self.invariant goes held more c.advance.ensures.counted)
+pub invariant_of-self-in_default-progress : goal.invariant_of-self-in_default-progress
+invariant_of-self-in_default-progress c =
+    let a = c.self.inside in
+    let h = c.in-Some.work in
+    let held : a.in_hand ≡ Some h = cc in
+    let goes : GoesOn a.method (machine_of a) = rw (← c.self.view_is) at c.requires.rule in
+    let b = begun_in a h c.self.invariant held in
+    let open_yet : a.t < 1000000 = rw (← c.self.view_is) at c.requires.open_yet in
+    let other : h.left ≡ 1 → ⊥ = λ e. c.in_default-progress.not-Done _ (c.perform-progress.ensures.done e) in
+    let more : 1 < h.left = omega (arith, b.begun.open_yet, other) in
+    rw (c.perform-progress.ensures.kept more) (more-kept a h c.perform-progress.new.work c.self.invariant goes held open_yet more c.perform-progress.ensures.counted (rw (c.perform-progress.ensures.kept more) at c.perform-progress.ensures.begun more))
 
--- it was the last one
+pub returns-in_default-progress-clause-line : goal.returns-in_default-progress-clause-line
+returns-in_default-progress-clause-line c =
+    let a = c.self.inside in
+    let h = c.in-Some.work in
+    let held : a.in_hand ≡ Some h = cc in
+    let goes : GoesOn a.method (machine_of a) = rw (← c.self.view_is) at c.requires.rule in
+    let b = begun_in a h c.self.invariant held in
+    let other : h.left ≡ 1 → ⊥ = λ e. c.in_default-progress.not-Done _ (c.perform-progress.ensures.done e) in
+    let more : 1 < h.left = omega (arith, b.begun.open_yet, other) in
+    rw (← c.self.view_is) (c.requires.blank ∙ more-line a h c.self.invariant goes held more)
+
+pub returns-in_default-progress-clause-machine : goal.returns-in_default-progress-clause-machine
+returns-in_default-progress-clause-machine c =
+    let a = c.self.inside in
+    let h = c.in-Some.work in
+    let held : a.in_hand ≡ Some h = cc in
+    let goes : GoesOn a.method (machine_of a) = rw (← c.self.view_is) at c.requires.rule in
+    let b = begun_in a h c.self.invariant held in
+    let other : h.left ≡ 1 → ⊥ = λ e. c.in_default-progress.not-Done _ (c.perform-progress.ensures.done e) in
+    let more : 1 < h.left = omega (arith, b.begun.open_yet, other) in
+    rw (c.perform-progress.ensures.kept more, ← c.self.view_is) (more-machine a h c.perform-progress.new.work c.self.invariant goes held more c.perform-progress.ensures.counted)
+
+-- the last one
+
+pub drop_front-requires : goal.drop_front-requires
+drop_front-requires c =
+    let a = c.self.inside in
+    let h = c.in-Some.work in
+    let held : a.in_hand ≡ Some h = cc in
+    let goes : GoesOn a.method (machine_of a) = rw (← c.self.view_is) at c.requires.rule in
+    let b = begun_in a h c.self.invariant held in
+    let takes : (h.caller == 63) ≡ true = sym c.is_take.ensures ∙ c.if-is_take.true in
+    let other : 1 < h.left → ⊥ = λ p. let m = c.perform-progress.ensures.more p in cc in
+    let one : h.left ≡ 1 = omega (arith, b.begun.open_yet, other) in
+    let d = c.perform-progress.ensures.done one in
+    let outcome : c.in-Done.outcome ≡ (effect_of h a.kernel.state).outcome = cc in
+    let counted : c.perform-progress.new.work ≡ stepped h = c.perform-progress.ensures.counted in
+    waits-take a h c.self.invariant goes held one takes
+
 pub invariant_of-self-in-Done : goal.invariant_of-self-in-Done
 invariant_of-self-in-Done c =
-    let held : c.self.inside.in_hand ≡ Some c.in-Some.work = cc in
-    let goes : GoesOn (machine_of c.self.inside) = rw (← c.self.view_is) at c.requires.rule in
-    let open_yet : c.self.inside.t < 1000000 = rw (← c.self.view_is) at c.requires.open_yet in
-    let b = begun_in c.self.inside c.in-Some.work c.self.invariant held in
-    let other : 1 < c.in-Some.work.left → ⊥ = λ p. let m = c.advance.ensures.more p in cc in
-    let one : c.in-Some.work.left ≡ 1 = omega (arith, b.begun.open_yet, other) in
-    let d = c.advance.ensures.done one in
-    let outcome : c.in-Done.outcome ≡ (effect_of c.in-Some.work c.self.inside.kernel.state).outcome = cc in
-    let service : c.service-service.result ≡ c.in-Some.work.request.service = c.service-service.ensures ∙ ap (λ (w : WorkRecord). w.request.service) c.advance.ensures.counted in
-    let ends : c.end.new.kernel ≡ ended_kernel (with_state c.self.inside.kernel (effect_of c.in-Some.work c.self.inside.kernel.state).kernel) c.self.inside.current.0 c.in-Some.work.request.service (effect_of c.in-Some.work c.self.inside.kernel.state).outcome
-    = rw (c.advance.ensures.kernel one, outcome, service) at c.end.ensures.kernel in
-    last-kept c.self.inside c.in-Some.work c.end.new.kernel c.settle-self-inside.result c.self.invariant goes held one ends c.settle-self-inside.ensures open_yet
+    let a = c.self.inside in
+    let h = c.in-Some.work in
+    let held : a.in_hand ≡ Some h = cc in
+    let goes : GoesOn a.method (machine_of a) = rw (← c.self.view_is) at c.requires.rule in
+    let b = begun_in a h c.self.invariant held in
+    let open_yet : a.t < 1000000 = rw (← c.self.view_is) at c.requires.open_yet in
+    let takes : (h.caller == 63) ≡ true = sym c.is_take.ensures ∙ c.if-is_take.true in
+    let other : 1 < h.left → ⊥ = λ p. let m = c.perform-progress.ensures.more p in cc in
+    let one : h.left ≡ 1 = omega (arith, b.begun.open_yet, other) in
+    let d = c.perform-progress.ensures.done one in
+    let outcome : c.in-Done.outcome ≡ (effect_of h a.kernel.state).outcome = cc in
+    let counted : c.perform-progress.new.work ≡ stepped h = c.perform-progress.ensures.counted in
+    take-kept a h c.self.invariant goes held one takes c.perform-progress.new.kernel c.drop_front.new.self c.settle-self-inside.result (c.perform-progress.ensures.kernel one) c.drop_front.ensures c.settle-self-inside.ensures open_yet
 
--- no table comes with its outcome
-pub end-requires-clause-plain : goal.end-requires-clause-plain
-end-requires-clause-plain c =
-    let w = c.in-Some.work in
-    let k = c.self.inside.kernel.state in
-    let held : c.self.inside.in_hand ≡ Some c.in-Some.work = cc in
-    let b = begun_in c.self.inside c.in-Some.work c.self.invariant held in
-    let other : 1 < w.left → ⊥ = λ p. let m = c.advance.ensures.more p in cc in
-    let one : w.left ≡ 1 = omega (arith, b.begun.open_yet, other) in
-    let d = c.advance.ensures.done one in
-    let outcome : c.in-Done.outcome ≡ (effect_of w k).outcome = cc in
-    rw outcome (plain-effect (call_of w.request w.caller w.compared w.head) k)
+pub returns-in-Done-clause-line : goal.returns-in-Done-clause-line
+returns-in-Done-clause-line c =
+    let a = c.self.inside in
+    let h = c.in-Some.work in
+    let held : a.in_hand ≡ Some h = cc in
+    let goes : GoesOn a.method (machine_of a) = rw (← c.self.view_is) at c.requires.rule in
+    let b = begun_in a h c.self.invariant held in
+    let takes : (h.caller == 63) ≡ true = sym c.is_take.ensures ∙ c.if-is_take.true in
+    let other : 1 < h.left → ⊥ = λ p. let m = c.perform-progress.ensures.more p in cc in
+    let one : h.left ≡ 1 = omega (arith, b.begun.open_yet, other) in
+    let d = c.perform-progress.ensures.done one in
+    let outcome : c.in-Done.outcome ≡ (effect_of h a.kernel.state).outcome = cc in
+    let counted : c.perform-progress.new.work ≡ stepped h = c.perform-progress.ensures.counted in
+    rw (← c.self.view_is) (take-told a h c.self.invariant goes held one takes c.take_line.new.line _ (rw (counted, outcome) at c.take_line.ensures) (rw (c.perform-progress.ensures.kernel one) at (c.perform-progress.ensures.same one)))
 
 pub returns-in-Done-clause-machine : goal.returns-in-Done-clause-machine
 returns-in-Done-clause-machine c =
-    let held : c.self.inside.in_hand ≡ Some c.in-Some.work = cc in
-    let goes : GoesOn (machine_of c.self.inside) = rw (← c.self.view_is) at c.requires.rule in
-    let b = begun_in c.self.inside c.in-Some.work c.self.invariant held in
-    let other : 1 < c.in-Some.work.left → ⊥ = λ p. let m = c.advance.ensures.more p in cc in
-    let one : c.in-Some.work.left ≡ 1 = omega (arith, b.begun.open_yet, other) in
+    let a = c.self.inside in
+    let h = c.in-Some.work in
+    let held : a.in_hand ≡ Some h = cc in
+    let goes : GoesOn a.method (machine_of a) = rw (← c.self.view_is) at c.requires.rule in
+    let b = begun_in a h c.self.invariant held in
+    let takes : (h.caller == 63) ≡ true = sym c.is_take.ensures ∙ c.if-is_take.true in
+    let other : 1 < h.left → ⊥ = λ p. let m = c.perform-progress.ensures.more p in cc in
+    let one : h.left ≡ 1 = omega (arith, b.begun.open_yet, other) in
+    let d = c.perform-progress.ensures.done one in
+    let outcome : c.in-Done.outcome ≡ (effect_of h a.kernel.state).outcome = cc in
+    let counted : c.perform-progress.new.work ≡ stepped h = c.perform-progress.ensures.counted in
+    rw (← c.self.view_is) (take-machine a h c.self.invariant goes held one takes c.perform-progress.new.kernel c.drop_front.new.self c.settle-self-inside.result (c.perform-progress.ensures.kernel one) c.drop_front.ensures c.settle-self-inside.ensures)
+
+-- a micro-step of a call, after which others are left
+
+pub invariant_of-self-in-More : goal.invariant_of-self-in-More
+invariant_of-self-in-More c =
+    let a = c.self.inside in
+    let h = c.in-Some.work in
+    let held : a.in_hand ≡ Some h = cc in
+    let goes : GoesOn a.method (machine_of a) = rw (← c.self.view_is) at c.requires.rule in
+    let b = begun_in a h c.self.invariant held in
+    let open_yet : a.t < 1000000 = rw (← c.self.view_is) at c.requires.open_yet in
+    let other : h.left ≡ 1 → ⊥ = λ e. let d = c.advance.ensures.done e in cc in
+    let more : 1 < h.left = omega (arith, b.begun.open_yet, other) in
+    rw (c.advance.ensures.kept more) (more-kept a h c.advance.new.work c.self.invariant goes held open_yet more c.advance.ensures.counted (rw (c.advance.ensures.kept more) at c.advance.ensures.begun more))
+
+pub returns-in-More-clause-line : goal.returns-in-More-clause-line
+returns-in-More-clause-line c =
+    let a = c.self.inside in
+    let h = c.in-Some.work in
+    let held : a.in_hand ≡ Some h = cc in
+    let goes : GoesOn a.method (machine_of a) = rw (← c.self.view_is) at c.requires.rule in
+    let b = begun_in a h c.self.invariant held in
+    let other : h.left ≡ 1 → ⊥ = λ e. let d = c.advance.ensures.done e in cc in
+    let more : 1 < h.left = omega (arith, b.begun.open_yet, other) in
+    rw (← c.self.view_is) (c.requires.blank ∙ more-line a h c.self.invariant goes held more)
+
+pub returns-in-More-clause-machine : goal.returns-in-More-clause-machine
+returns-in-More-clause-machine c =
+    let a = c.self.inside in
+    let h = c.in-Some.work in
+    let held : a.in_hand ≡ Some h = cc in
+    let goes : GoesOn a.method (machine_of a) = rw (← c.self.view_is) at c.requires.rule in
+    let b = begun_in a h c.self.invariant held in
+    let other : h.left ≡ 1 → ⊥ = λ e. let d = c.advance.ensures.done e in cc in
+    let more : 1 < h.left = omega (arith, b.begun.open_yet, other) in
+    rw (c.advance.ensures.kept more, ← c.self.view_is) (more-machine a h c.advance.new.work c.self.invariant goes held more c.advance.ensures.counted)
+
+-- the last one
+
+pub end-requires-clause-plain : goal.end-requires-clause-plain
+end-requires-clause-plain c =
+    let a = c.self.inside in
+    let h = c.in-Some.work in
+    let held : a.in_hand ≡ Some h = cc in
+    let goes : GoesOn a.method (machine_of a) = rw (← c.self.view_is) at c.requires.rule in
+    let b = begun_in a h c.self.invariant held in
+    let other : 1 < h.left → ⊥ = λ p. let m = c.advance.ensures.more p in cc in
+    let one : h.left ≡ 1 = omega (arith, b.begun.open_yet, other) in
     let d = c.advance.ensures.done one in
-    let outcome : c.in-Done.outcome ≡ (effect_of c.in-Some.work c.self.inside.kernel.state).outcome = cc in
-    let service : c.service-service.result ≡ c.in-Some.work.request.service = c.service-service.ensures ∙ ap (λ (w : WorkRecord). w.request.service) c.advance.ensures.counted in
-    let ends : c.end.new.kernel ≡ ended_kernel (with_state c.self.inside.kernel (effect_of c.in-Some.work c.self.inside.kernel.state).kernel) c.self.inside.current.0 c.in-Some.work.request.service (effect_of c.in-Some.work c.self.inside.kernel.state).outcome
+    let outcome : c.in-Done-advance.outcome ≡ (effect_of h a.kernel.state).outcome = cc in
+    rw outcome (plain-effect (call_of h.request h.caller h.interrupted h.compared) a.kernel.state)
+
+pub invariant_of-self-in-Done-advance : goal.invariant_of-self-in-Done-advance
+invariant_of-self-in-Done-advance c =
+    let a = c.self.inside in
+    let h = c.in-Some.work in
+    let held : a.in_hand ≡ Some h = cc in
+    let goes : GoesOn a.method (machine_of a) = rw (← c.self.view_is) at c.requires.rule in
+    let b = begun_in a h c.self.invariant held in
+    let open_yet : a.t < 1000000 = rw (← c.self.view_is) at c.requires.open_yet in
+    let calls : (h.caller == 63) ≡ false = sym c.is_take.ensures ∙ c.if-is_take.false in
+    let other : 1 < h.left → ⊥ = λ p. let m = c.advance.ensures.more p in cc in
+    let one : h.left ≡ 1 = omega (arith, b.begun.open_yet, other) in
+    let d = c.advance.ensures.done one in
+    let outcome : c.in-Done-advance.outcome ≡ (effect_of h a.kernel.state).outcome = cc in
+    let service : c.service-service.result ≡ h.request.service = c.service-service.ensures ∙ ap (λ (w : WorkRecord). w.request.service) c.advance.ensures.counted in
+    let ends : c.end.new.kernel ≡ ended_kernel (with_state a.kernel (effect_of h a.kernel.state).kernel) a.current.0 h.request.service (effect_of h a.kernel.state).outcome
     = rw (c.advance.ensures.kernel one, outcome, service) at c.end.ensures.kernel in
-    rw (← c.self.view_is) (last-machine c.self.inside c.in-Some.work c.end.new.kernel c.settle-self-inside.result c.self.invariant goes held one ends c.settle-self-inside.ensures)
+    last-kept a h c.self.invariant goes held one calls c.end.new.kernel c.settle-self-inside-in-Done-advance.result ends c.settle-self-inside-in-Done-advance.ensures open_yet
+
+pub returns-in-Done-advance-clause-line : goal.returns-in-Done-advance-clause-line
+returns-in-Done-advance-clause-line c =
+    let a = c.self.inside in
+    let h = c.in-Some.work in
+    let held : a.in_hand ≡ Some h = cc in
+    let goes : GoesOn a.method (machine_of a) = rw (← c.self.view_is) at c.requires.rule in
+    let b = begun_in a h c.self.invariant held in
+    let calls : (h.caller == 63) ≡ false = sym c.is_take.ensures ∙ c.if-is_take.false in
+    let other : 1 < h.left → ⊥ = λ p. let m = c.advance.ensures.more p in cc in
+    let one : h.left ≡ 1 = omega (arith, b.begun.open_yet, other) in
+    let d = c.advance.ensures.done one in
+    let outcome : c.in-Done-advance.outcome ≡ (effect_of h a.kernel.state).outcome = cc in
+    let service : c.service-service.result ≡ h.request.service = c.service-service.ensures ∙ ap (λ (w : WorkRecord). w.request.service) c.advance.ensures.counted in
+    let ends : c.end.new.kernel ≡ ended_kernel (with_state a.kernel (effect_of h a.kernel.state).kernel) a.current.0 h.request.service (effect_of h a.kernel.state).outcome
+    = rw (c.advance.ensures.kernel one, outcome, service) at c.end.ensures.kernel in
+    rw (← c.self.view_is) (rw (outcome, service) at c.end.ensures.line ∙ call-line a h c.self.invariant goes held one calls)
+
+pub returns-in-Done-advance-clause-machine : goal.returns-in-Done-advance-clause-machine
+returns-in-Done-advance-clause-machine c =
+    let a = c.self.inside in
+    let h = c.in-Some.work in
+    let held : a.in_hand ≡ Some h = cc in
+    let goes : GoesOn a.method (machine_of a) = rw (← c.self.view_is) at c.requires.rule in
+    let b = begun_in a h c.self.invariant held in
+    let calls : (h.caller == 63) ≡ false = sym c.is_take.ensures ∙ c.if-is_take.false in
+    let other : 1 < h.left → ⊥ = λ p. let m = c.advance.ensures.more p in cc in
+    let one : h.left ≡ 1 = omega (arith, b.begun.open_yet, other) in
+    let d = c.advance.ensures.done one in
+    let outcome : c.in-Done-advance.outcome ≡ (effect_of h a.kernel.state).outcome = cc in
+    let service : c.service-service.result ≡ h.request.service = c.service-service.ensures ∙ ap (λ (w : WorkRecord). w.request.service) c.advance.ensures.counted in
+    let ends : c.end.new.kernel ≡ ended_kernel (with_state a.kernel (effect_of h a.kernel.state).kernel) a.current.0 h.request.service (effect_of h a.kernel.state).outcome
+    = rw (c.advance.ensures.kernel one, outcome, service) at c.end.ensures.kernel in
+    rw (← c.self.view_is) (last-machine a h c.self.invariant goes held one calls c.end.new.kernel c.settle-self-inside-in-Done-advance.result ends c.settle-self-inside-in-Done-advance.ensures)

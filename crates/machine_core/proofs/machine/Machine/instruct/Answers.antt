@@ -1,5 +1,4 @@
 use Rattle.std.proofs.Common.{refl, ◌≡◌, ◌<◌, ◌∙◌, ap, sym}
-use Rattle.kern_base.specs.declared.kinds.Method.TheVariants.{Direct}
 use Rattle.kern_model.specs.State.{Task, prio_of}
 use Rattle.machine_model.specs.Rules.{TaskActs, rule}
 use Rattle.machine_model.specs.Answers.{Change}
@@ -7,9 +6,9 @@ use Rattle.machine_laws.specs.RuleTable.{Applies}
 use Rattle.machine_core.specs.MachineView.{machine_of}
 use Rattle.machine_core.proofs.ActingLaws.{resting}
 use Rattle.machine_core.proofs.KeptLaws.{kept-change}
-use Rattle.machine_core.proofs.StillLaws.{still-stopped}
+use Rattle.machine_core.proofs.StillLaws.{IsSteady, steady-stopped}
 use Rattle.rv32_exec.specs.declared.Stepped.TheVariants.{Call, Trap}
-use Rattle.machine_core.proofs.MachineFacts.{e, called-registers, call-line, call-machine, trap-machine, instruct-change, none_begun}
+use Rattle.machine_core.proofs.MachineFacts.{e, called-registers, calls-line, call-machine, trap-machine, instruct-change, none_begun, steady_in, with_method, not_handler}
 use Rattle.machine_core.proofs.machine.Machine.instruct.Goals as goal
 
 -- the task has stopped
@@ -17,17 +16,18 @@ pub invariant_of-self-in-Trap : goal.invariant_of-self-in-Trap
 invariant_of-self-in-Trap c =
     let a = c.self.inside in
     let x = c.args.task.0 in
-    let acts : rule Direct (machine_of a) ≡ TaskActs = rw (← c.self.view_is) at c.requires.rule in
+    let acts : rule a.method (machine_of a) ≡ TaskActs = rw (← c.self.view_is) at c.requires.rule in
     let current : a.current.0 ≡ x = rw (← c.self.view_is) at c.requires.current in
     let reads = rw (← c.self.view_is) at c.requires.reads in
     let open_yet : a.t < 1000000 = rw (← c.self.view_is) at c.requires.open_yet in
-    let rests : Applies Direct TaskActs (machine_of a) = resting (machine_of a) acts in
-    let same = instruct-change (machine_of a) x acts current reads in
+    let rests : Applies a.method TaskActs (machine_of a) = resting a.method (machine_of a) acts in
+    let same = instruct-change a.method (machine_of a) x acts current reads in
     let did : (e a x c.requires.application).did ≡ Trap c.in-Trap.kind c.in-Trap.pc = sym c.run_task.ensures.did ∙ c.in-Trap.is in
+    let steady : IsSteady a.kinds c.stop.new.self.state = rw (c.stop.ensures.kernel, c.run_task.ensures.registers) (steady-stopped a.kinds x a.kernel.state (steady_in a c.self.invariant)) in
     kept-change a _ c.self.invariant open_yet
-    (trap-machine a x c.requires.application c.stop.new.self c.run_task.new.self c.run_task.new.ram c.settle-self-inside.result c.in-Trap.kind c.in-Trap.pc did c.run_task.ensures.memory current c.run_task.ensures.registers c.stop.ensures.kernel c.settle-self-inside.ensures
-    ∙ ap (λ (d : Change). d.machine) (sym same))
-    (rw (c.stop.ensures.kernel, c.run_task.ensures.registers) (still-stopped x a.kernel.state c.self.invariant.still)) (none_begun a.in_hand _ rests.0.in_hand) c.self.invariant.vectors
+    (with_method a.method (trap-machine a x c.requires.application c.stop.new.self c.run_task.new.self c.run_task.new.ram c.settle-self-inside.result c.in-Trap.kind c.in-Trap.pc did c.run_task.ensures.memory current c.run_task.ensures.registers c.stop.ensures.kernel c.settle-self-inside.ensures
+    ∙ ap (λ (d : Change). d.machine) (sym same)))
+    (record { still = steady.still; kinds = steady.kinds; work = none_begun a.config a.in_hand _ rests.0.in_hand; size = c.self.invariant.parts.size; vectors = c.self.invariant.parts.vectors })
 
 pub returns-in-Trap-clause-machine : goal.returns-in-Trap-clause-machine
 returns-in-Trap-clause-machine c =
@@ -35,7 +35,7 @@ returns-in-Trap-clause-machine c =
     let x = c.args.task.0 in
     let current : a.current.0 ≡ x = rw (← c.self.view_is) at c.requires.current in
     let did : (e a x c.requires.application).did ≡ Trap c.in-Trap.kind c.in-Trap.pc = sym c.run_task.ensures.did ∙ c.in-Trap.is in
-    rw (← c.self.view_is) (trap-machine a x c.requires.application c.stop.new.self c.run_task.new.self c.run_task.new.ram c.settle-self-inside.result c.in-Trap.kind c.in-Trap.pc did c.run_task.ensures.memory current c.run_task.ensures.registers c.stop.ensures.kernel c.settle-self-inside.ensures)
+    rw (← c.self.view_is) (with_method a.method (trap-machine a x c.requires.application c.stop.new.self c.run_task.new.self c.run_task.new.ram c.settle-self-inside.result c.in-Trap.kind c.in-Trap.pc did c.run_task.ensures.memory current c.run_task.ensures.registers c.stop.ensures.kernel c.settle-self-inside.ensures))
 
 -- it has called
 pub returns-in-Call-clause-line : goal.returns-in-Call-clause-line
@@ -45,7 +45,7 @@ returns-in-Call-clause-line c =
     let did : (e a x c.requires.application).did ≡ Call = sym c.run_task.ensures.did ∙ c.in-Call.is in
     let regs : c.tcb-tcb.result.now.regs ≡ (e a x c.requires.application).registers = called-registers a x c.requires.application c.run_task.new.self c.tcb-tcb.result.now.regs c.self.invariant.valid.registers c.run_task.ensures.registers c.tcb-tcb.ensures.registers in
     let request = rw regs at (c.request_in-request.ensures (e a x c.requires.application).memory) in
-    rw (← c.self.view_is) (call-line a x c.requires.application c.call_line.new.line c.request_in-request.result did c.call_line.ensures request)
+    rw (← c.self.view_is) (calls-line a x c.requires.application c.call_line.new.line c.request_in-request.result did c.call_line.ensures request)
 
 pub returns-in-Call-clause-machine : goal.returns-in-Call-clause-machine
 returns-in-Call-clause-machine c =
@@ -55,22 +55,28 @@ returns-in-Call-clause-machine c =
     let regs : c.tcb-tcb.result.now.regs ≡ (e a x c.requires.application).registers = called-registers a x c.requires.application c.run_task.new.self c.tcb-tcb.result.now.regs c.self.invariant.valid.registers c.run_task.ensures.registers c.tcb-tcb.ensures.registers in
     let request = rw regs at (c.request_in-request.ensures (e a x c.requires.application).memory) in
     let prio : c.tcb-tcb.result.now.prio.0 ≡ prio_of a.kernel.state x = ap (λ (t : Task). t.prio) c.tcb-tcb.ensures.task ∙ rw c.run_task.ensures.registers refl in
-    rw (c.begin.ensures.work, ← c.self.view_is) (call-machine a x c.requires.application c.run_task.new.self c.run_task.new.ram c.request_in-request.result c.tcb-tcb.result.now.prio.0 did c.run_task.ensures.memory c.run_task.ensures.registers request prio)
+    rw (c.begin.ensures.work, ← c.self.view_is, not_handler x c.requires.application) (with_method a.method (call-machine a x c.requires.application c.run_task.new.self c.run_task.new.ram c.request_in-request.result c.tcb-tcb.result.now.prio.0 did c.run_task.ensures.memory c.run_task.ensures.registers request prio))
 
 pub invariant_of-self-in-Call : goal.invariant_of-self-in-Call
 invariant_of-self-in-Call c =
     let a = c.self.inside in
     let x = c.args.task.0 in
-    let acts : rule Direct (machine_of a) ≡ TaskActs = rw (← c.self.view_is) at c.requires.rule in
+    let acts : rule a.method (machine_of a) ≡ TaskActs = rw (← c.self.view_is) at c.requires.rule in
     let current : a.current.0 ≡ x = rw (← c.self.view_is) at c.requires.current in
     let reads = rw (← c.self.view_is) at c.requires.reads in
     let open_yet : a.t < 1000000 = rw (← c.self.view_is) at c.requires.open_yet in
-    let same = instruct-change (machine_of a) x acts current reads in
+    let same = instruct-change a.method (machine_of a) x acts current reads in
     let did : (e a x c.requires.application).did ≡ Call = sym c.run_task.ensures.did ∙ c.in-Call.is in
     let regs : c.tcb-tcb.result.now.regs ≡ (e a x c.requires.application).registers = called-registers a x c.requires.application c.run_task.new.self c.tcb-tcb.result.now.regs c.self.invariant.valid.registers c.run_task.ensures.registers c.tcb-tcb.ensures.registers in
     let request = rw regs at (c.request_in-request.ensures (e a x c.requires.application).memory) in
     let prio : c.tcb-tcb.result.now.prio.0 ≡ prio_of a.kernel.state x = ap (λ (t : Task). t.prio) c.tcb-tcb.ensures.task ∙ rw c.run_task.ensures.registers refl in
     kept-change a _ c.self.invariant open_yet
-    (rw c.begin.ensures.work (call-machine a x c.requires.application c.run_task.new.self c.run_task.new.ram c.request_in-request.result c.tcb-tcb.result.now.prio.0 did c.run_task.ensures.memory c.run_task.ensures.registers request prio)
-    ∙ ap (λ (d : Change). d.machine) (sym same))
-    (rw c.run_task.ensures.registers c.self.invariant.still) (record { begun = c.begin.ensures.begun; head = rw c.begin.ensures.work refl }) c.self.invariant.vectors
+    (with_method a.method (rw (c.begin.ensures.work, not_handler x c.requires.application) (call-machine a x c.requires.application c.run_task.new.self c.run_task.new.ram c.request_in-request.result c.tcb-tcb.result.now.prio.0 did c.run_task.ensures.memory c.run_task.ensures.registers request prio)
+    ∙ ap (λ (d : Change). d.machine) (sym same)))
+    (record {
+      still = rw c.run_task.ensures.registers c.self.invariant.parts.still;
+      kinds = rw c.run_task.ensures.registers c.self.invariant.parts.kinds;
+      work = record { begun = c.begin.ensures.begun; fit = rw (c.begin.ensures.work, not_handler x c.requires.application) refl };
+      size = c.self.invariant.parts.size;
+      vectors = c.self.invariant.parts.vectors;
+    })

@@ -1,27 +1,30 @@
 use Rattle.std.proofs.Common.{◌≡◌, ◌<◌, sym, ◌∙◌, subst, arith}
-use Rattle.machine_model.specs.Machine.{Machine}
-use Rattle.machine_core.specs.Valid.{change}
-use Rattle.machine_core.specs.MachineView.{machine_of}
+use Rattle.machine_core.specs.MethodMachine.{MethodMachine}
+use Rattle.machine_core.specs.Valid.{changed}
+use Rattle.machine_core.specs.MachineView.{machine_of, method_machine_of}
 use Rattle.machine_core.proofs.KeptLaws.{kept-steps, next-more}
-use Rattle.machine_core.proofs.MachineFacts.{GoesOn, raw-goes_on}
+use Rattle.machine_core.proofs.MachineFacts.{GoesOn, raw-goes_on, none-hand}
 use Rattle.machine_core.proofs.machine.Machine.work.Goals as goal
 use Rattle.machine_core.proofs.machine.Machine.work.Goals.{then-is_some, else-is_some}
+
+pub begin-requires-clause-free : goal.begin-requires-clause-free
+begin-requires-clause-free c = rw (← c.self.view_is) (none-hand c.self.inside.in_hand (sym c.is_some.ensures ∙ c.if-is_some.false))
 
 -- the raw step is within the bound
 pub invariant_of-self : goal.invariant_of-self
 invariant_of-self c =
     let a = c.self.inside in
     let open_yet : a.t < 1000000 = rw (← c.self.view_is) at c.requires.open_yet in
-    let moved : c.if-is_some.self ≡ (change c.args.self.now).machine
-    = elim c.if-is_some.branch [ then-is_some w ↦ w.self-is ∙ w.advance.ensures.machine | else-is_some w ↦ w.self-is ∙ w.act.ensures.machine ] in
-    let happened : machine_of c.self-2.inside ≡ (change (machine_of a)).machine = subst (λ (m : Machine). machine_of c.self-2.inside ≡ (change m).machine) (sym c.self.view_is) (c.self-2.view_is ∙ moved) in
-    kept-steps a c.self-2.inside c.self.invariant open_yet happened c.self-2.invariant.still c.self-2.invariant.work c.self-2.invariant.vectors 1 (omega arith)
+    let moved : c.if-is_some.self ≡ changed c.args.self.now
+    = elim c.if-is_some.branch [ then-is_some w ↦ w.self-is ∙ w.advance.ensures.machine | else-is_some w ↦ w.self-is ∙ w.begin.ensures.machine ] in
+    let happened : method_machine_of c.self-2.inside ≡ changed (method_machine_of a) = subst (λ (m : MethodMachine). method_machine_of c.self-2.inside ≡ changed m) (sym c.self.view_is) (c.self-2.view_is ∙ moved) in
+    kept-steps a c.self-2.inside c.self.invariant open_yet happened c.self-2.invariant.parts 1 (omega arith)
 
 pub returns-clause-machine : goal.returns-clause-machine
 returns-clause-machine c =
     let a = c.self.inside in
-    let goes : GoesOn (machine_of a) = rw (← c.self.view_is) at c.requires.rule in
-    let moved : c.if-is_some.self ≡ (change c.args.self.now).machine
-    = elim c.if-is_some.branch [ then-is_some w ↦ w.self-is ∙ w.advance.ensures.machine | else-is_some w ↦ w.self-is ∙ w.act.ensures.machine ] in
-    let happened : machine_of c.self-2.inside ≡ (change (machine_of a)).machine = subst (λ (m : Machine). machine_of c.self-2.inside ≡ (change m).machine) (sym c.self.view_is) (c.self-2.view_is ∙ moved) in
-    rw (← c.self.view_is) (next-more a c.self-2.inside happened (raw-goes_on a goes))
+    let goes : GoesOn a.method (machine_of a) = rw (← c.self.view_is) at c.requires.rule in
+    let moved : c.if-is_some.self ≡ changed c.args.self.now
+    = elim c.if-is_some.branch [ then-is_some w ↦ w.self-is ∙ w.advance.ensures.machine | else-is_some w ↦ w.self-is ∙ w.begin.ensures.machine ] in
+    let happened : method_machine_of c.self-2.inside ≡ changed (method_machine_of a) = subst (λ (m : MethodMachine). method_machine_of c.self-2.inside ≡ changed m) (sym c.self.view_is) (c.self-2.view_is ∙ moved) in
+    rw (← c.self.view_is) (next-more a c.self-2.inside happened (raw-goes_on a.method (machine_of a) goes))

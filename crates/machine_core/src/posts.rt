@@ -1,0 +1,49 @@
+// Where the posts of interrupt code go: into the kernel at once, or into the queue of posts.
+
+ghost use Rattle.std.specs.Prelude.{◌≡◌};
+ghost use Rattle.machine_core.specs.Posts.{post_at_once, post_later};
+
+use deferred_queue::DeferredQueue;
+use kern_base::{Answer, OsErr, Post, Prio};
+use kernel_calls::Kernel;
+
+// What takes the posts of interrupt code.
+pub(crate) trait Posts {
+    ghost use Rattle.std.specs.Prelude.{ℕ, List};
+    ghost use Rattle.kern_base.specs.declared.services.Service.{Service};
+    ghost use Rattle.kern_base.specs.declared.outcomes.Answer.{Answer};
+
+    // What a post comes to while a task of this priority is current: its answer, and what it leaves.
+    ghost posted: { ℕ → Service → List ℕ → Self → Answer × Self };
+
+    // A post that passed the static checks, while a task of this priority is current.
+    fn post(&mut self, post: Post, prio: Prio) -> Answer
+        ensures answer { result ≡ (posted prio.0 post.service post.args self.old).0 }
+        ensures after { self.new ≡ (posted prio.0 post.service post.args self.old).1 };
+}
+
+impl Posts for Kernel {
+    ghost posted = { post_at_once };
+
+    // The post acts at once, and whole.
+    fn post(&mut self, post: Post, prio: Prio) -> Answer {
+        self.post_now(post, prio)
+    }
+}
+
+impl Posts for DeferredQueue {
+    ghost posted = { post_later };
+
+    // The post is queued with that priority, or lost where the queue is full.
+    fn post(&mut self, post: Post, prio: Prio) -> Answer {
+        let err = match self.queue(post, prio) {
+            Ok(()) => OsErr::NoError,
+            Err(_) => OsErr::InterruptQueueFull,
+        };
+        Answer {
+            err,
+            value: 0,
+            extra: 0,
+        }
+    }
+}
