@@ -6,7 +6,7 @@ use Rattle.program_model.specs.declared.statuses.Status.{Status}
 use Rattle.program_model.specs.declared.statuses.Status.TheVariants as status
 use Rattle.program_model.specs.declared.commands.Command.{Command}
 use Rattle.program_model.specs.declared.commands.Command.TheVariants.{Run, Listing, Binary}
-use Rattle.kern_base.specs.declared.kinds.Method.TheVariants.{Direct}
+use Rattle.kern_base.specs.declared.kinds.Method.{Method}
 use Rattle.kern_model.specs.Services.{program_serves}
 use Rattle.app_image.specs.Image.{ImageRecord}
 use Rattle.app_image.specs.Layout.{layout}
@@ -21,13 +21,13 @@ pub record Answer : Type 0 where
   pub status : Status
   pub text : List ℕ
 
--- the printed run of a case to so many task steps
-unfoldable pub printed : ImageRecord → ListRecord → ℕ → List ℕ
-printed image l count = run_text program_serves Direct image l count
+-- the printed run of a case by a method to so many task steps
+unfoldable pub printed : Method → ImageRecord → ListRecord → ℕ → List ℕ
+printed method image l count = run_text program_serves method image l count
 
 -- what a command writes of an image and its injections
 abbrev pub accepted_text : Command → ImageRecord → ListRecord → List ℕ
-accepted_text (Run count) image l = printed image l count
+accepted_text (Run method count) image l = printed method image l count
 accepted_text Listing image l = listing image
 accepted_text Binary image l = layout image
 

@@ -13,8 +13,9 @@ use Rattle.app_image.specs.Refusal.{checked}
 use Rattle.app_image.specs.declared.causes.ImageCause.TheVariants.{Layout}
 use Rattle.app_image.specs.declared.causes.ImageError.{ImageError}
 use Rattle.app_image.specs.declared.causes.ImageError.TheVariants as image_error
-use Rattle.rv32_asm.specs.Assembled.{Assembly, assembled}
-use Rattle.rv32_asm.specs.Assembled as asm
+use Rattle.rv32_asm.specs.Assembled.{assembled}
+use Rattle.rv32_asm.specs.Assembly.{Assembly}
+use Rattle.rv32_asm.specs.Assembly as asm
 use Rattle.inject_list.specs.Lists.{ListRecord}
 use Rattle.inject_list.specs.Pieces.{Piece, Word, piece_of, lines}
 use Rattle.inject_list.specs.Stage.{Reading, injections_in}

@@ -5,9 +5,8 @@ use Rattle.std.specs.Option.{option_map, option_and_then}
 use Rattle.std.specs.Char.{is_ascii_digit}
 use Rattle.std.specs.Str.{bytes_eq}
 use Rattle.kern_base.specs.declared.kinds.Method.{Method}
-use Rattle.kern_base.specs.declared.kinds.Method.TheVariants.{Direct, Deferred}
 use Rattle.program_model.specs.Limits.{most_lines}
-use Rattle.program_model.specs.Words.{value_of, count_word}
+use Rattle.program_model.specs.Words.{value_of, count_word, method_word}
 
 -- what the words ask for
 pub data AnyCommand : Type 0 where
@@ -37,9 +36,6 @@ seed_word word = number_word 20 0 (2 ^ 64 - 1) word
 -- a size: one to five digits, 1 to 16,384
 abbrev pub size_word : List ℕ → Option ℕ
 size_word word = number_word 5 1 most_lines word
-
-abbrev pub method_word : List ℕ → Option Method
-method_word word = if bytes_eq word (codes "direct") then Some Direct else (if bytes_eq word (codes "deferred") then Some Deferred else None)
 
 -- `list` and `image`
 abbrev pub alone : List ℕ → Option AnyCommand

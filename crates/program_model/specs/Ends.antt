@@ -1,5 +1,6 @@
 -- The end of a run's text: its last line tells its number of task steps, and raw steps within the bound.
 use Rattle.std.specs.Prelude.{◌≡◌, ◌≤◌, ℕ, ◌+◌, ◌*◌, List, ◌++◌, length}
+use Rattle.kern_base.specs.declared.kinds.Method.{Method}
 use Rattle.app_image.specs.Image.{ImageRecord, IsValidImage}
 use Rattle.app_image.specs.Layout.{HasWords}
 use Rattle.inject_list.specs.Lists.{ListRecord, IsValidList}
@@ -21,4 +22,4 @@ pub record ComesToItsEnd (image : ImageRecord) (l : ListRecord) (n : ℕ) (text 
 
 -- Every run of an accepted case comes to its number of task steps.
 abbrev pub EveryRunComesToItsEnd : Type 0
-EveryRunComesToItsEnd = (image : ImageRecord) (l : ListRecord) (n : ℕ) → IsValidImage image → HasWords image → IsValidList image l → ComesToItsEnd image l n (printed image l n)
+EveryRunComesToItsEnd = (method : Method) (image : ImageRecord) (l : ListRecord) (n : ℕ) → IsValidImage image → HasWords image → IsValidList image l → ComesToItsEnd image l n (printed method image l n)

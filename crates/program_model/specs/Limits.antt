@@ -17,6 +17,6 @@ most_lines = 16384
 
 -- a run has at most 1,000,000 task steps
 abbrev pub IsWithinLimit : Command → Type 0
-IsWithinLimit (Run count) = count ≤ most_task_steps
+IsWithinLimit (Run method count) = count ≤ most_task_steps
 IsWithinLimit Listing = Unit {0}
 IsWithinLimit Binary = Unit {0}

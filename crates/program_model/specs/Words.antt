@@ -6,6 +6,8 @@ use Rattle.std.specs.Str.{bytes_eq}
 use Rattle.std.specs.String.{string_bytes}
 use Rattle.std.specs.declared.string.String.{String}
 use Rattle.std.specs.declared.alloc.Global.{Global}
+use Rattle.kern_base.specs.declared.kinds.Method.{Method}
+use Rattle.kern_base.specs.declared.kinds.Method.TheVariants.{Direct, Deferred}
 use Rattle.program_model.specs.Limits.{most_task_steps}
 use Rattle.program_model.specs.declared.commands.Command.{Command}
 use Rattle.program_model.specs.declared.commands.Command.TheVariants.{Run, Listing, Binary}
@@ -23,17 +25,22 @@ is_count word = nat_le 1 (length word) && (nat_le (length word) 7 && (list_all i
 abbrev pub count_word : List ℕ → Option ℕ
 count_word word = if is_count word then Some (value_of 0 word) else None
 
-abbrev pub run_command : Option ℕ → Option Command
-run_command None = None
-run_command (Some count) = Some (Run count)
+abbrev pub method_word : List ℕ → Option Method
+method_word word = if bytes_eq word (codes "direct") then Some Direct else (if bytes_eq word (codes "deferred") then Some Deferred else None)
+
+-- a method and a number of task steps
+abbrev pub run_command : Option Method → Option ℕ → Option Command
+run_command None count = None
+run_command (Some method) None = None
+run_command (Some method) (Some count) = Some (Run method count)
 
 -- `list` and `image`
 abbrev pub one_word : List ℕ → Option Command
 one_word first = if bytes_eq first (codes "list") then Some Listing else (if bytes_eq first (codes "image") then Some Binary else None)
 
--- `run direct N`
+-- `run direct N` and `run deferred N`
 abbrev pub three_words : List ℕ → List ℕ → List ℕ → Option Command
-three_words first method count = if bytes_eq first (codes "run") && bytes_eq method (codes "direct") then run_command (count_word count) else None
+three_words first method count = if bytes_eq first (codes "run") then run_command (method_word method) (count_word count) else None
 
 -- the command that the words are
 abbrev pub command_of : List (List ℕ) → Option Command

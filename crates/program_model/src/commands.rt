@@ -1,11 +1,12 @@
 // What the words may ask for.
 
+use kern_base::Method;
+
 /// What the words ask for.
 #[derive(Clone, Copy, Debug, PartialEq, Eq)]
 pub enum Command {
-    /// The printed run of the case to so many task steps, at most 1,000,000, where interrupt code
-    /// posts at once.
-    Run(u32),
+    /// The printed run of the case by a posting method to so many task steps, at most 1,000,000.
+    Run(Method, u32),
     /// The listing of the case's image.
     Listing,
     /// The case's image in the binary format.

@@ -1,4 +1,5 @@
 mod cases;
+mod deferred;
 mod interrupts;
 
 use outside::{MemSink, MemSource};
@@ -356,7 +357,7 @@ fn words_that_are_no_command_write_nothing(rt: HostRuntime) -> Result<(), Fail> 
         "",
         "run",
         "run fast 5",
-        "run deferred 5",
+        "run deferred",
         "run direct",
         "run direct 5 5",
         "run direct 1000001",

@@ -50,9 +50,9 @@ pub fn write_run<K: Sink>(
     count: u32,
     sink: &mut K,
 ) -> Result<(), Failed>
-    requires within { machine.t ≤ count }
+    requires within { machine.state.t ≤ count }
     requires count { count ≤ most_task_steps }
-    ensures bytes { (list : ListRecord) → machine ≡ start image.now list → WritesPiece (K.held sink.old) (K.held sink.new) result (printed image.now list count) }
+    ensures bytes { (list : ListRecord) → machine.state ≡ start image.now list → WritesPiece (K.held sink.old) (K.held sink.new) result (printed machine.method image.now list count) }
     ensures cause { HasCause (K.faults sink.old) (K.faults sink.new) result }
 {
     let mut event = Event {

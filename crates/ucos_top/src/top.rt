@@ -18,6 +18,7 @@ use crate::text::write_run;
 use crate::words::command_of;
 use app_image::{Image, write_image};
 use inject_list::InjectList;
+use kern_base::Method;
 use machine_core::Machine;
 use outside::{Failed, Sink, Source};
 use program_model::{CaseCause, Command, Status};
@@ -143,7 +144,7 @@ fn run<K: Sink>(
     ensures whole_text { result ≡ Status.Done → Appends (K.held sink.old) (K.held sink.new) (accepted_text command image.now list.now) }
 {
     match command {
-        Command::Run(count) => run_case(alloc, image, list, count, sink),
+        Command::Run(method, count) => run_case(alloc, image, list, method, count, sink),
         Command::Listing => ending(write_listing(image, sink)),
         Command::Binary => ending(write_image(image, sink)),
     }
@@ -159,11 +160,12 @@ fn ending(written: Result<(), Failed>) -> Status
     }
 }
 
-// Runs a case to so many task steps.
+// Runs a case by a method to so many task steps.
 fn run_case<K: Sink>(
     alloc: Global,
     image: &Image,
     list: &InjectList,
+    method: Method,
     count: u32,
     sink: &mut K,
 ) -> Status
@@ -173,10 +175,10 @@ fn run_case<K: Sink>(
     ensures sink_count { K.faults sink.old ≤ K.faults sink.new }
     ensures no_memory { result ≡ Status.NoMemory → sink.new ≡ sink.old }
     ensures write_fault { result ≡ Status.WriteFault → Rose (K.faults sink.old) (K.faults sink.new) }
-    ensures write_fault_text { result ≡ Status.WriteFault → AppendsPrefix (K.held sink.old) (K.held sink.new) (printed image.now list.now count) }
-    ensures whole_text { result ≡ Status.Done → Appends (K.held sink.old) (K.held sink.new) (printed image.now list.now count) }
+    ensures write_fault_text { result ≡ Status.WriteFault → AppendsPrefix (K.held sink.old) (K.held sink.new) (printed method image.now list.now count) }
+    ensures whole_text { result ≡ Status.Done → Appends (K.held sink.old) (K.held sink.new) (printed method image.now list.now count) }
 {
-    match Machine::load(alloc, image, list) {
+    match Machine::load(alloc, image, list, method) {
         Ok(machine) => ending(write_run(machine, image, count, sink)),
         Err(_) => Status::NoMemory,
     }

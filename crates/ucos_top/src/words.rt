@@ -1,11 +1,12 @@
 ghost use Rattle.std.specs.Prelude.{◌≡◌, ◌≤◌, IfSome};
-ghost use Rattle.program_model.specs.Words.{command_of, count_word, texts};
+ghost use Rattle.program_model.specs.Words.{command_of, count_word, method_word, texts};
 ghost use Rattle.program_model.specs.Limits.{IsWithinLimit, most_task_steps};
 
 use crate::COUNT_LIMIT;
+use kern_base::Method;
 use program_model::Command;
 
-/// The command that the words are, if they are one: `run direct N`, `list` or `image`.
+/// The command that the words are, if they are one: `run direct N`, `run deferred N`, `list` or `image`.
 pub fn command_of(words: &[String]) -> Option<Command>
     ensures value { result ≡ command_of (texts words.now) }
     ensures within { IfSome result IsWithinLimit }
@@ -13,9 +14,21 @@ pub fn command_of(words: &[String]) -> Option<Command>
     match words {
         [first] if first.as_str() == "list" => Some(Command::Listing),
         [first] if first.as_str() == "image" => Some(Command::Binary),
-        [first, method, count] if first.as_str() == "run" && method.as_str() == "direct" => {
-            Some(Command::Run(count_of(count.as_bytes())?))
+        [first, method, count] if first.as_str() == "run" => {
+            let method = method_of(method.as_str())?;
+            Some(Command::Run(method, count_of(count.as_bytes())?))
         }
+        _ => None,
+    }
+}
+
+// The posting method that a word names.
+fn method_of(word: &str) -> Option<Method>
+    ensures { result ≡ method_word word.now }
+{
+    match word {
+        "direct" => Some(Method::Direct),
+        "deferred" => Some(Method::Deferred),
         _ => None,
     }
 }

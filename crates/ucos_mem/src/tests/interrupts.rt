@@ -272,6 +272,7 @@ fn interrupts_enter_at_their_moments(rt: HostRuntime) -> Result<(), Fail> {
         ("run direct 4", LEVELS, LEVELS_TO_4),
         ("run direct 2", OVERFLOW, OVERFLOW_TO_2),
         ("run direct 2", SEVEN, SEVEN_TO_2),
+        ("run deferred 2", SEVEN, SEVEN_TO_2),
         ("run direct 6", ANSWERS, ANSWERS_TO_6),
         ("run direct 4", ENDS, ENDS_TO_4),
     ] {

@@ -1,7 +1,6 @@
 use Rattle.std.specs.Prelude.{flat_map}
 use Rattle.std.proofs.Common.{◌≡◌, ℕ, List, ◌++◌, ap, refl, arith}
 use Rattle.std.proofs.Math.Nat.{mul-le-mul_right}
-use Rattle.kern_base.specs.declared.kinds.Method.TheVariants.{Direct}
 use Rattle.kern_model.specs.Services.{program_serves}
 use Rattle.machine_model.specs.Text.{event_text, end_line}
 use Rattle.machine_model.specs.Run.{run}
@@ -10,10 +9,10 @@ use Rattle.ucos_top.proofs.ends.every_run_comes_to_its_end.Goals as goal
 
 pub returns : goal.returns
 unfolding printed
-returns c image l n valid words list =
-    let r = run program_serves Direct image l n in
-    let ended = c.every_run_ends.ensures program_serves Direct image l n valid words list in
-    let bounded = c.raw_steps_are_bounded.ensures program_serves Direct image l n valid words list in
+returns c method image l n valid words list =
+    let r = run program_serves method image l n in
+    let ended = c.every_run_ends.ensures program_serves method image l n valid words list in
+    let bounded = c.raw_steps_are_bounded.ensures program_serves method image l n valid words list in
     let front = flat_map (event_text image) r.events in
     record {
       front = front;

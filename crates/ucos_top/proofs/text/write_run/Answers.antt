@@ -1,8 +1,7 @@
-use Rattle.std.proofs.Common.{◌≡◌, ◌++◌, ◌<◌, [], arith}
+use Rattle.std.proofs.Common.{◌≡◌, ◌++◌, ◌<◌, [], arith, refl}
 use Rattle.std.proofs.KnownBytes.{Appends-trans, Appends-nil}
 use Rattle.std.proofs.lemmas.Result.{err_from_is_err_and}
 use Rattle.outside.proofs.Known.{AppendsPrefix-after, WritesPiece-after}
-use Rattle.kern_base.specs.declared.kinds.Method.TheVariants.{Direct}
 use Rattle.kern_model.specs.Services.{program_serves}
 use Rattle.machine_model.specs.Rules.{next}
 use Rattle.machine_model.specs.Bound.{events_left}
@@ -15,7 +14,8 @@ use Rattle.ucos_top.proofs.text.write_run.Goals as goal
 
 pub running-init : goal.running-init
 running-init g c = record {
-  written = ([], Appends-nil (g.K.Sink.held c.args.sink.now), λ list e. rw e (printed_nothing program_serves Direct c.args.image.now list c.args.count));
+  written = ([], Appends-nil (g.K.Sink.held c.args.sink.now), λ list e. rw e (printed_nothing program_serves c.args.machine.method c.args.image.now list c.args.count));
+  method = refl;
   within = c.requires.within;
   bound = c.requires.count;
   later = omega arith;
@@ -25,19 +25,21 @@ running-init g c = record {
 pub running-preserved : goal.running-preserved
 running-preserved g c =
     let (front, written, printed) = c.running.invariant.written in
-    let state = c.running.machine in
+    let state = c.running.machine.state in
+    let same : c.running.machine.method ≡ c.args.machine.method = c.running.invariant.method in
     let open_yet : state.t < c.args.count = omega (arith, c.running-test.true, c.task_steps.ensures) in
-    let falls : events_left c.args.count (next program_serves Direct state).1 < events_left c.args.count state = rw c.step_into.ensures.machine at (c.step_into.ensures.fewer c.args.count open_yet) in
+    let falls : events_left c.args.count (next program_serves c.args.machine.method state).1 < events_left c.args.count state = rw (c.step_into.ensures.machine, same) at (c.step_into.ensures.fewer c.args.count open_yet) in
     let some : 0 < events_left c.args.count state = omega (arith, falls) in
-    let said = rw c.step_into.ensures.event at c.in_ok-write_event.ensures.bytes in
+    let said = rw (c.step_into.ensures.event, same) at c.in_ok-write_event.ensures.bytes in
     record {
       written = (
-        front ++ event_text c.args.image.now (next program_serves Direct state).0,
+        front ++ event_text c.args.image.now (next program_serves c.args.machine.method state).0,
         Appends-trans _ _ _ front _ written said,
         λ list e.
-            rw c.step_into.ensures.machine ((printed_more program_serves Direct c.args.image.now list c.args.count front state (printed list e) open_yet some).printed falls),
+            rw (c.step_into.ensures.machine, same) ((printed_more program_serves c.args.machine.method c.args.image.now list c.args.count front state (printed list e) open_yet some).printed falls),
       );
-      within = rw c.step_into.ensures.machine (omega (arith, t-next program_serves Direct state, open_yet));
+      method = rw c.step_into.ensures.machine same;
+      within = rw (c.step_into.ensures.machine, same) (omega (arith, t-next program_serves c.args.machine.method state, open_yet));
       bound = c.running.invariant.bound;
       later = omega (arith, c.running.invariant.later, c.in_ok-write_event.ensures.cause.later);
     }
@@ -51,22 +53,24 @@ unfolding printed
 returns-in_err-write_event-clause-bytes g c = λ list e.
     let p = err_from_is_err_and c.from_residual.result c.from_residual.ensures.1 in
     let (front, written, printed) = c.running.invariant.written in
-    let state = c.running.machine in
+    let state = c.running.machine.state in
+    let same : c.running.machine.method ≡ c.args.machine.method = c.running.invariant.method in
     let open_yet : state.t < c.args.count = omega (arith, c.running-test.true, c.task_steps.ensures) in
-    let falls : events_left c.args.count (next program_serves Direct state).1 < events_left c.args.count state = rw c.step_into.ensures.machine at (c.step_into.ensures.fewer c.args.count open_yet) in
+    let falls : events_left c.args.count (next program_serves c.args.machine.method state).1 < events_left c.args.count state = rw (c.step_into.ensures.machine, same) at (c.step_into.ensures.fewer c.args.count open_yet) in
     let some : 0 < events_left c.args.count state = omega (arith, falls) in
-    let next_one = printed_more program_serves Direct c.args.image.now list c.args.count front state (printed list e) open_yet some in
-    let said = rw c.step_into.ensures.event at c.in_err-write_event.ensures.bytes in
+    let next_one = printed_more program_serves c.args.machine.method c.args.image.now list c.args.count front state (printed list e) open_yet some in
+    let said = rw (c.step_into.ensures.event, same) at c.in_err-write_event.ensures.bytes in
     rw p.1 (AppendsPrefix-after (g.K.Sink.held c.args.sink.now) (g.K.Sink.held c.running.sink) (g.K.Sink.held c.write_event.new.sink)
-    front (event_text c.args.image.now (next program_serves Direct state).0) next_one.rest (run_text program_serves Direct c.args.image.now list c.args.count) written said next_one.follows)
+    front (event_text c.args.image.now (next program_serves c.args.machine.method state).0) next_one.rest (run_text program_serves c.args.machine.method c.args.image.now list c.args.count) written said next_one.follows)
 
 -- the last line is written, or a prefix of it
 pub returns-clause-bytes : goal.returns-clause-bytes
 unfolding printed
 returns-clause-bytes g c = λ list e.
     let (front, written, printed) = c.running.invariant.written in
-    let state = c.running.machine in
+    let state = c.running.machine.state in
+    let same : c.running.machine.method ≡ c.args.machine.method = c.running.invariant.method in
     let at_end : state.t ≡ c.args.count = omega (arith, c.running-test.false, c.task_steps.ensures, c.running.invariant.within) in
     let last : c.as_slice.result.now ≡ end_line state.s state.t = cc in
     let said = rw last at c.write.ensures.bytes in
-    WritesPiece-after c.write.result _ _ _ front _ _ written said (printed_all program_serves Direct c.args.image.now list c.args.count front state (printed list e) at_end)
+    WritesPiece-after c.write.result _ _ _ front _ _ written said (printed_all program_serves c.args.machine.method c.args.image.now list c.args.count front state (printed list e) at_end)

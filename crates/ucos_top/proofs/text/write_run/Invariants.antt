@@ -1,6 +1,5 @@
 use Rattle.std.proofs.Common.{◌≡◌, ◌≤◌, List, ℕ}
 use Rattle.std.specs.Io.KnownBytes.{Appends}
-use Rattle.kern_base.specs.declared.kinds.Method.TheVariants.{Direct}
 use Rattle.kern_model.specs.Services.{program_serves}
 use Rattle.inject_list.specs.Lists.{ListRecord}
 use Rattle.machine_model.specs.Machine.{start}
@@ -12,12 +11,13 @@ use Rattle.ucos_top.proofs.text.write_run.Given as goal
 abbrev pub invariant-running : goal.invariant-running
 invariant-running g l = record {
   written : (front : List ℕ) × Appends (g.K.Sink.held l.fn.sink) (g.K.Sink.held l.sink) front
-      × ((list : ListRecord) → l.fn.machine ≡ start l.image list → HasPrinted program_serves Direct l.image list l.count front l.machine);
-  within : l.machine.t ≤ l.count;
+      × ((list : ListRecord) → l.fn.machine.state ≡ start l.image list → HasPrinted program_serves l.fn.machine.method l.image list l.count front l.machine.state);
+  method : l.machine.method ≡ l.fn.machine.method;
+  within : l.machine.state.t ≤ l.count;
   bound : l.count ≤ 1000000;
   later : g.K.Sink.faults l.fn.sink ≤ g.K.Sink.faults l.sink;
 }
 
 -- the events that may still come
 abbrev pub decreases-running : goal.decreases-running
-decreases-running g l = events_left l.count l.machine
+decreases-running g l = events_left l.count l.machine.state
