@@ -49,7 +49,8 @@ impl<L: Links> PendLists<L> {
     /// The forward successor of a node: 0 to 511 are those of the tasks, then come the heads of the objects.
     pub fn successor(&self, node: u16) -> u16
         requires { node < 576 }
-        ensures { result ≡ slice_index self.now.nexts node }
+        ensures node { result ≡ slice_index self.now.nexts node }
+        ensures below { result < 576 }
     {
         self.links.next(node)
     }
@@ -57,7 +58,8 @@ impl<L: Links> PendLists<L> {
     /// The backward successor of a node, which is the node before it where no pair is half done.
     pub fn predecessor(&self, node: u16) -> u16
         requires { node < 576 }
-        ensures { result ≡ slice_index self.now.prevs node }
+        ensures node { result ≡ slice_index self.now.prevs node }
+        ensures below { result < 576 }
     {
         self.links.prev(node)
     }

@@ -45,7 +45,8 @@ impl<L: Links> ReadyList<L> {
     /// The forward successor of a node: 0 to 63 are the tasks, then come the heads of the priorities.
     pub fn successor(&self, node: u16) -> u16
         requires { node < 128 }
-        ensures { result ≡ slice_index self.now.nexts node }
+        ensures node { result ≡ slice_index self.now.nexts node }
+        ensures below { result < 128 }
     {
         self.links.next(node)
     }
@@ -53,7 +54,8 @@ impl<L: Links> ReadyList<L> {
     /// The backward successor of a node, which is the node before it where no pair is half done.
     pub fn predecessor(&self, node: u16) -> u16
         requires { node < 128 }
-        ensures { result ≡ slice_index self.now.prevs node }
+        ensures node { result ≡ slice_index self.now.prevs node }
+        ensures below { result < 128 }
     {
         self.links.prev(node)
     }

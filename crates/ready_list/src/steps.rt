@@ -17,8 +17,8 @@ pub(crate) fn head_node(prio: Prio) -> u16
 }
 
 impl<L: Links> ReadyList<L> {
-    // The node behind which a task joins: the last of the list, or its head.
-    fn join_after(&self, prio: Prio, tail: bool) -> u16
+    /// The node behind which a task joins: the last of the list, or its head.
+    pub fn join_after(&self, prio: Prio, tail: bool) -> u16
         requires { prio.0 < 64 }
         ensures before { result ≡ node_before (64 + prio.0) (list_at self.now.back prio.0) (join_place tail (list_at self.now.back prio.0)) }
         ensures node { result ≡ join_node self.now prio.0 tail }

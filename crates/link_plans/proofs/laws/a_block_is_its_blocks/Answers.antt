@@ -1,0 +1,5 @@
+use Rattle.link_plans.proofs.Rows.{block-row}
+use Rattle.link_plans.proofs.laws.a_block_is_its_blocks.Goals as goal
+
+pub returns : goal.returns
+returns c = block-row

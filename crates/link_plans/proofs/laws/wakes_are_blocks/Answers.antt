@@ -1,0 +1,5 @@
+use Rattle.link_plans.proofs.Rows.{wakes-row}
+use Rattle.link_plans.proofs.laws.wakes_are_blocks.Goals as goal
+
+pub returns : goal.returns
+returns c = wakes-row

@@ -1,0 +1,39 @@
+// The two facts that a service owes of its plan, proved for all tasks, objects and lists. Each function does nothing: its contract
+// is the fact.
+
+ghost use Rattle.link_plans.specs.Laws.{BlockFits, BlockIsBlocks, BlockKeepsNodes, WaiterCanWake, WakesAreBlocks, WakesFit, WakesKeepNodes};
+
+/// The links of tasks that are woken are the blocks of their wakes.
+pub fn wakes_are_blocks()
+    ensures { WakesAreBlocks }
+{}
+
+/// The links of a caller that waits for up to eight objects are the blocks of its wait.
+pub fn a_block_is_its_blocks()
+    ensures { BlockIsBlocks }
+{}
+
+/// The links of tasks that are woken fit, where each of them can be woken and none stands twice.
+pub fn wakes_fit()
+    ensures { WakesFit }
+{}
+
+/// An application task that waits can be woken.
+pub fn a_waiter_can_wake()
+    ensures { WaiterCanWake }
+{}
+
+/// The links of a ready caller that waits for up to eight objects fit.
+pub fn a_block_fits()
+    ensures { BlockFits }
+{}
+
+/// After the links of tasks that are woken, each node that waits still serves its task's object.
+pub fn wakes_keep_nodes()
+    ensures { WakesKeepNodes }
+{}
+
+/// After the links of a caller that waits, each node that waits serves its task's object.
+pub fn a_block_keeps_nodes()
+    ensures { BlockKeepsNodes }
+{}

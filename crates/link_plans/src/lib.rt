@@ -1,0 +1,14 @@
+//! The links of a whole step, one after another, out of the records of tasks as they were when it began.
+//!
+//! A plan is small: what the call comes to, the tasks that it wakes or the objects for which the caller is to wait, and how far
+//! its links are made. Contracts see the list of the links that are left.
+#![tactic(auto)]
+
+mod laws;
+mod plan;
+
+pub use laws::{
+    a_block_fits, a_block_is_its_blocks, a_block_keeps_nodes, a_waiter_can_wake, wakes_are_blocks,
+    wakes_fit, wakes_keep_nodes,
+};
+pub use plan::Plan;

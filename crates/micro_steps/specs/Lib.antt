@@ -1,0 +1,4 @@
+pub mod Blocks
+pub mod Starts
+pub mod Halfway
+pub mod Whole

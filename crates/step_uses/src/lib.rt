@@ -1,0 +1,7 @@
+//! Whole steps, made on the lists one micro-step at a time, over both kinds of links and over links that count what is read.
+#![tactic(auto)]
+
+#[cfg(test)]
+mod counted_links;
+#[cfg(test)]
+mod tests;
