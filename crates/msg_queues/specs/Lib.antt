@@ -1,0 +1,4 @@
+pub mod Stored
+pub mod PoolView
+pub mod QueueView
+pub mod Rows

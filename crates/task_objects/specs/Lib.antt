@@ -1,0 +1,3 @@
+pub mod Box
+pub mod BoxView
+pub mod Rows
