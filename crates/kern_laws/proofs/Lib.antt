@@ -3,4 +3,5 @@ pub mod Services
 pub mod Valid
 pub mod Lists
 pub mod Cost
+pub mod ObjectKinds
 pub mod Start

@@ -1,2 +1,3 @@
 pub mod Laws
 pub mod Inheritance
+pub mod ObjectKinds

@@ -3,6 +3,7 @@
 #![tactic(auto)]
 
 ghost use Rattle.kern_laws.specs.Inheritance.{InheritedIsLeastBase, PresentIsLeastBase, RenewedIsLeastBase};
+ghost use Rattle.kern_laws.specs.ObjectKinds.{EffectKeepsKinds, PostKeepsKinds, UnitKeepsKinds, FinishKeepsKinds, TrapKeepsKinds, CallbackEndKeepsKinds};
 ghost use Rattle.kern_laws.specs.Laws.{HalfEndsAsEffect, HalfEndsAsUnit, StartIsValid, EffectKeepsValid, UnitKeepsValid, FinishKeepsValid, TrapKeepsValid, CallbackEndKeepsValid, PostsKeep, CostIsBounded, QuickCostIsBounded, UnitCostIsBounded, EffectKeepsMessages, UnitKeepsMessages, FinishKeepsMessages, TrapKeepsMessages};
 
 /// After all its micro-steps, a call has made the links of its effect.
@@ -83,6 +84,36 @@ pub fn a_finish_keeps_the_messages()
 /// A task that traps keeps its messages.
 pub fn a_trap_keeps_the_messages()
     ensures { TrapKeepsMessages }
+{}
+
+/// A call keeps the kind of each object.
+pub fn a_call_keeps_the_kinds()
+    ensures { EffectKeepsKinds }
+{}
+
+/// So does a post without a caller.
+pub fn a_post_keeps_the_kinds()
+    ensures { PostKeepsKinds }
+{}
+
+/// So does a unit of an internal task.
+pub fn a_unit_keeps_the_kinds()
+    ensures { UnitKeepsKinds }
+{}
+
+/// So does a task that reads the result of its wait.
+pub fn a_finish_keeps_the_kinds()
+    ensures { FinishKeepsKinds }
+{}
+
+/// So does a task that traps.
+pub fn a_trap_keeps_the_kinds()
+    ensures { TrapKeepsKinds }
+{}
+
+/// So does the end of a callback.
+pub fn the_end_of_a_callback_keeps_the_kinds()
+    ensures { CallbackEndKeepsKinds }
 {}
 
 /// The inherited priority is the least base priority among the tasks from which a task is reached.
