@@ -1,8 +1,11 @@
-//! The program: it makes the words and the standard streams, and ends with the number of the status.
+//! The program: it makes the words and the standard streams, tells on the standard error why a command did not do all that it
+//! was asked for, and ends with the number of the status.
 #![tactic(auto)]
 
 ghost use Rattle.std.specs.Prelude.{◌≡◌, ◌≢◌, OnErr, OnOk};
 
+use arrayvec::ArrayVec;
+use diagnostics::{KEPT, KeepingSink, tell};
 use outside::{Failed, StdSink, StdSource};
 use std::io::{BufWriter, Stdout};
 use std::process::ExitCode;
@@ -42,20 +45,24 @@ fn ended(status: Status, flushed: Result<(), Failed>) -> Status
     }
 }
 
-// A word that is no text stands in no command.
-fn run(rt: &HostRuntime) -> Status {
+// How the words ended, and the first bytes that were written. A word that is no text stands in no command.
+fn run(rt: &HostRuntime) -> (Status, ArrayVec<u8, KEPT>) {
     match words_of(rt) {
         Ok(words) => {
             let mut source = StdSource::new(rt.stdin());
-            let mut sink = StdSink::new(output(rt));
+            let mut sink = KeepingSink::new(StdSink::new(output(rt)));
             let status = ucos_main(rt.alloc(), &words, &mut source, &mut sink);
-            ended(status, sink.flush())
+            let (mut written, first) = sink.into_parts();
+            (ended(status, written.flush()), first)
         }
-        Err(e) if e.kind() == io::ErrorKind::OutOfMemory => Status::NoMemory,
-        Err(_) => Status::Usage,
+        Err(e) if e.kind() == io::ErrorKind::OutOfMemory => (Status::NoMemory, ArrayVec::new()),
+        Err(_) => (Status::Usage, ArrayVec::new()),
     }
 }
 
+// Where the standard error takes nothing, there is nobody left to tell.
 fn main(rt: HostRuntime) -> ExitCode {
-    ExitCode::from(run(&rt).number())
+    let (status, first) = run(&rt);
+    let _ = tell(status, first.as_slice(), &mut StdSink::new(rt.stderr()));
+    ExitCode::from(status.number())
 }
