@@ -1,7 +1,7 @@
 #!/bin/sh
 # Holds the program to its budget in instructions of the processor, which other work on the machine does not change: for each case the
-# instructions of one task step, as the difference of a run to 150,000 task steps and one to 50,000, divided by 100,000. Prints a line
-# for each case, and fails where one is above its budget.
+# instructions of one task step, as the difference of a run to 150,000 task steps and one to 50,000, divided by 100,000; and for texts
+# that are read and listed the instructions of the whole process. Prints a line for each case, and fails where one is above its budget.
 # Needs valgrind. First build the program: (cd crates/ucos3 && rt run)
 set -eu
 cd "$(dirname "$0")/.."
@@ -45,19 +45,67 @@ interrupts() {
     awk 'BEGIN { for (i = 0; i < 16384; i++) print "step " 60 * i + 7 ", 3" }'
 }
 
-# The instructions of a run of a case to so many task steps.
-instructions() {
-    valgrind --tool=callgrind --callgrind-out-file=/dev/null "$program" run direct "$2" < "$folder/$1" 2>&1 > /dev/null |
+# A text of 4 MiB: instructions and words of RAM with labels and comments, and lines of comments behind them.
+full_text() {
+    awk 'BEGIN {
+        print ".code\ngo: nop"
+        for (i = 0; i < 16383; i++) print "l" i ": addi a0, a1, " i % 2000 " # a comment after an instruction, as people write them"
+        print ".ram"
+        for (i = 0; i < 16384; i++) print ".word " i ", -1, 0x7f, l7 # table"
+        print ".sem s, 0\n.task a, go, 10, 0, 0, 0x140000"
+        for (i = 0; i < 45000; i++) print "# xxxxxxxxxxxxxxxxxxxxxxxxxxxxxxxxxxxxxxxxxxxxxxxxxxxxxxxxxxxx"
+    }' | head -c 4194304
+}
+
+# The most lines that a text can have with an instruction on each.
+most_instructions() {
+    awk 'BEGIN { for (i = 0; i < 1048576; i++) print "nop" }'
+}
+
+# As many instructions as the code can have.
+full_code() {
+    awk 'BEGIN {
+        print ".code\ngo: nop"
+        for (i = 0; i < 16383; i++) print "add a0, a1, a2"
+        print ".task a, go, 10, 0, 0, 0x140000"
+    }'
+}
+
+# The instructions of the program on a case, with these words.
+collected() {
+    file=$1
+    shift
+    valgrind --tool=callgrind --callgrind-out-file=/dev/null "$program" "$@" < "$folder/$file" 2>&1 > /dev/null |
         awk '/Collected/ { print $NF }'
+}
+
+# The instructions of 100,000 task steps of a case by a method.
+steps() {
+    echo $(($(collected "$1" run "$2" 150000) - $(collected "$1" run "$2" 50000)))
 }
 
 # Measures a case against its budget.
 over=0
 measure() {
     "$1" > "$folder/$1"
-    step=$((($(instructions "$1" 150000) - $(instructions "$1" 50000)) / 100000))
+    step=$(($(steps "$1" direct) / 100000))
     echo "$1: $step instructions a task step, budget $2"
     if [ "$step" -gt "$2" ]; then over=1; fi
+}
+
+# Measures the deferred method against the direct one on a case without interrupts: at most 105 of 100.
+compare() {
+    percent=$(($(steps "$1" deferred) * 100 / $(steps "$1" direct)))
+    echo "$1: the deferred method takes $percent of 100 of the direct one's instructions, budget 105"
+    if [ "$percent" -gt 105 ]; then over=1; fi
+}
+
+# Measures the listing of a text against its budget in millions.
+measure_list() {
+    "$1" > "$folder/$1"
+    millions=$(($(collected "$1" list) / 1000000))
+    echo "$1: $millions million instructions, budget $2"
+    if [ "$millions" -gt "$2" ]; then over=1; fi
 }
 
 measure loop 130
@@ -65,4 +113,9 @@ measure memory 150
 measure semaphore 600
 measure two_tasks 550
 measure interrupts 260
+compare loop
+compare semaphore
+measure_list full_text 135
+measure_list most_instructions 800
+measure_list full_code 36
 exit $over
