@@ -1,0 +1,4 @@
+pub mod ObjectFacts
+pub mod DecidingFacts
+pub mod ConcludingFacts
+pub mod StartFacts

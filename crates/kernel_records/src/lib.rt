@@ -1,0 +1,15 @@
+//! Everything of the kernel but its lists: the records of tasks and objects, the matches of timeouts, the counters. A call is
+//! decided here, and its last micro-step makes here what was decided; the lists go their own way in between.
+#![tactic(auto)]
+
+mod changes;
+mod concluding;
+mod deciding;
+mod laws;
+mod objects;
+mod records;
+mod starting;
+
+pub use laws::{a_decision_has_its_outcome, a_decision_is_concluded};
+pub use records::Records;
+

@@ -1,0 +1,181 @@
+// The records of the kernel.
+
+ghost use Rattle.std.specs.Prelude.{◌≡◌, ◌<◌, true, false, IfOk, Some, List, map, slice_set, slice_index_or};
+ghost use Rattle.kern_model.specs.State.{Task, task_at, is_ready, kinds_of};
+ghost use Rattle.kern_model.specs.Valid.{has_result};
+ghost use Rattle.kern_model.specs.Finish.{finished};
+ghost use Rattle.kern_model.specs.Stop.{stopped};
+ghost use Rattle.machine_model.specs.Steps.{some_readied};
+ghost use Rattle.tcb_pool.specs.TaskView.{task_of};
+ghost use Rattle.rv32_exec.specs.Exec.{exec};
+ghost use Rattle.rv32_exec.specs.Registers.{no_registers};
+ghost use Rattle.kernel_records.specs.RecordsRecord.{records_at_start, without_lists};
+ghost use Rattle.kernel_records.specs.Served.{IsServedResult};
+
+use crate::changes::{clear_result, stop_task};
+use crate::objects::Object;
+use crate::starting::{start_kinds, start_objects};
+use app_image::Image;
+use arrayvec::ArrayVec;
+use kern_base::{Finished, Kinds, NoMemory, Prio, TaskId};
+use rv32_exec::{Program, Ram, Regs, Stepped};
+use std::alloc::Global;
+use std::marker::Model;
+use tcb_pool::{Tcb, Tcbs};
+
+// What services read of the image.
+#[derive(Clone, Copy)]
+pub(crate) struct Settings {
+    pub tasks: u8,
+    pub round_robin: bool,
+    pub tmr_div: u32,
+    pub pool: u32,
+}
+
+/// The records of the kernel: its tasks, its objects, the matches of timeouts, the counters and the lock. All its memory is
+/// taken by `new`. Contracts see the kernel's state without its lists.
+#[derive(Drop)]
+pub struct Records {
+    pub(crate) tasks: Tcbs,
+    pub(crate) objects: Vec<Object>,
+    pub(crate) kinds: Kinds,
+    pub(crate) matches: ArrayVec<(u8, u32), 64>,
+    pub(crate) ticks: u32,
+    pub(crate) timer_count: u32,
+    pub(crate) tick_signals: u32,
+    pub(crate) timer_signals: u32,
+    pub(crate) tick_calls: u32,
+    pub(crate) processing: bool,
+    pub(crate) in_callback: bool,
+    pub(crate) lock: u8,
+    pub(crate) free: u32,
+    pub(crate) settings: Settings,
+}
+
+impl Model for Records {
+    ghost use Rattle.kernel_records.specs.RecordsRecord.{RecordsRecord};
+
+    ghost Value = { RecordsRecord };
+
+    ghost use Rattle.kernel_records.specs.RecordsView.{records_of, KnowsKinds};
+
+    ghost view = { records_of };
+
+    ghost invariant = { KnowsKinds };
+}
+
+impl Records {
+    /// The records at the start: the tasks and objects are those that the image declares. Takes all the memory of a run.
+    pub fn new(alloc: Global, image: &Image) -> Result<Records, NoMemory>
+        ensures { IfOk result (λ r. r ≡ records_at_start image.now) }
+    {
+        let config = image.config();
+        Ok(Records {
+            tasks: Tcbs::new(image),
+            objects: start_objects(alloc, image.objects())?,
+            kinds: start_kinds(image.objects(), image.tasks().len() as u8),
+            matches: ArrayVec::new(),
+            ticks: 0,
+            timer_count: 0,
+            tick_signals: 0,
+            timer_signals: 0,
+            tick_calls: 0,
+            processing: false,
+            in_callback: false,
+            lock: 0,
+            free: config.pool,
+            settings: Settings {
+                tasks: image.tasks().len() as u8,
+                round_robin: config.round_robin == 1,
+                tmr_div: config.tmr_div,
+                pool: config.pool,
+            },
+        })
+    }
+
+    /// What the static checks of a call look at: the kinds of objects, and how many application tasks there are.
+    pub fn kinds(&self) -> &Kinds
+        ensures { result.now ≡ kinds_of self.now.state }
+    {
+        &self.kinds
+    }
+
+    /// How often the scheduler is locked, 0 to 250.
+    pub fn lock(&self) -> u8
+        ensures { result ≡ self.now.state.lock }
+    {
+        self.lock
+    }
+
+    /// The records of all tasks.
+    pub fn tasks(&self) -> &Tcbs
+        ensures tasks { result.now.tasks ≡ self.now.state.tasks }
+        ensures registers { result.now.registers ≡ self.now.registers }
+    {
+        &self.tasks
+    }
+
+    /// The record of a task.
+    pub fn tcb(&self, task: TaskId) -> &Tcb
+        requires { task.0 < 64 }
+        ensures task { task_of result.now ≡ task_at self.now.state task.0 }
+        ensures registers { result.now.regs ≡ slice_index_or self.now.registers task.0 no_registers }
+    {
+        self.tasks.get(task)
+    }
+
+    /// Which tasks are ready, by number.
+    pub fn ready_tasks(&self) -> [bool; 64]
+        ensures { result ≡ map is_ready self.now.state.tasks }
+    {
+        self.tasks.ready()
+    }
+
+    /// Whether a task of this priority is ready that was not: `before` tells which were.
+    pub fn has_readied(&self, before: &[bool; 64], prio: Prio) -> bool
+        ensures { (tasks : List Task) → before.now ≡ map is_ready tasks → result ≡ some_readied prio.0 tasks self.now.state.tasks }
+    {
+        self.tasks.has_readied(before, prio)
+    }
+
+    /// Runs one instruction on the registers of a task, where they stand. A trap changes nothing.
+    #[inline(always)]
+    pub fn run_task(&mut self, task: TaskId, program: &Program, ram: &mut Ram) -> Stepped
+        requires { task.0 < 64 }
+        ensures registers { self.new ≡ record self.old { registers = slice_set self.old.registers task.0 (exec program.now (slice_index_or self.old.registers task.0 no_registers) ram.old).registers } }
+        ensures memory { ram.new ≡ (exec program.now (slice_index_or self.old.registers task.0 no_registers) ram.old).memory }
+        ensures did { result ≡ (exec program.now (slice_index_or self.old.registers task.0 no_registers) ram.old).did }
+    {
+        self.tasks.run(task, program, ram)
+    }
+
+    /// Writes the registers of a task, and changes nothing else.
+    pub fn set_regs(&mut self, task: TaskId, regs: Regs)
+        requires { task.0 < 64 }
+        ensures { self.new ≡ record self.old { registers = slice_set self.old.registers task.0 regs } }
+    {
+        self.tasks.set_regs(task, regs);
+    }
+
+    /// What the first action of a task after its wait does: gives the result that waits for it, which is then gone.
+    pub fn take_result(&mut self, task: TaskId) -> Finished
+        requires task { task.0 < 64 }
+        requires waits { has_result (task_at self.old.state task.0).answered ≡ true }
+        requires served { IsServedResult (task_at self.old.state task.0).answered }
+        ensures result { (task_at self.old.state task.0).answered ≡ Some result }
+        ensures records { self.new ≡ record self.old { state = finished task.0 self.old.state } }
+    {
+        let result = self.tasks.get(task).result.unwrap();
+        clear_result(&mut self.tasks, task);
+        result
+    }
+
+    /// A trap of a task, which stops for good. The scheduler is then not locked.
+    pub fn stop(&mut self, task: TaskId)
+        requires { task.0 < 64 }
+        ensures { self.new ≡ record self.old { state = without_lists (stopped task.0 self.old.state) } }
+    {
+        stop_task(&mut self.tasks, task);
+        self.lock = 0;
+    }
+}

@@ -1,0 +1,70 @@
+// The objects at the start.
+
+ghost use Rattle.std.specs.Prelude.{◌≡◌, ◌≤◌, length, map, IfOk};
+ghost use Rattle.kern_model.specs.Start.{object_of, timer_of};
+ghost use Rattle.kernel_records.specs.ObjectView.{object_seen, objects_in, timer_seen};
+
+use crate::objects::{Content, Object, Timer};
+use app_image::ObjDef;
+use arrayvec::ArrayVec;
+use kern_base::{Kind, Kinds, NoMemory};
+use semaphores::Sem;
+use std::alloc::Global;
+
+// The objects as they were declared.
+pub(crate) fn start_objects(alloc: Global, defs: &[ObjDef]) -> Result<Vec<Object>, NoMemory>
+    ensures { IfOk result (λ v. objects_in v.items ≡ map object_of defs.now) }
+{
+    let mut objects = Vec::new(alloc);
+    for def in defs {
+        if objects.push(start_object(def)).is_err() {
+            return Err(NoMemory);
+        }
+    }
+    Ok(objects)
+}
+
+// The kinds of the declared objects, and how many tasks there are.
+pub(crate) fn start_kinds(defs: &[ObjDef], tasks: u8) -> Kinds
+    requires { length defs.now ≤ 64 }
+    ensures objects { result.objects ≡ map (λ d. d.kind) defs.now }
+    ensures tasks { result.tasks ≡ tasks }
+{
+    let mut kinds = ArrayVec::new();
+    for def in defs {
+        kinds.push(def.kind);
+    }
+    Kinds::new(kinds, tasks)
+}
+
+// An object as it was declared.
+fn start_object(def: &ObjDef) -> Object
+    ensures { object_seen result ≡ object_of def.now }
+{
+    let first = def.f[0];
+    let content = match def.kind {
+        Kind::Sem => Content::Semaphore(Sem { count: first }),
+        Kind::Queue => Content::Messages(first),
+        Kind::Flags => Content::Bits(first),
+        Kind::Mutex => Content::Free,
+        Kind::OneShot => Content::Timed(start_timer(false, &def.f)),
+        Kind::Periodic => Content::Timed(start_timer(true, &def.f)),
+    };
+    Object {
+        content,
+        deleted: false,
+    }
+}
+
+// A timer as it was declared.
+fn start_timer(periodic: bool, f: &[u32; 4]) -> Timer
+    ensures { timer_seen result ≡ timer_of periodic f.now }
+{
+    Timer {
+        periodic,
+        delay: f[0],
+        period: f[1],
+        callback: f[2],
+        argument: f[3],
+    }
+}
