@@ -1,38 +1,32 @@
--- What the kernel's fields mean.
-use Rattle.std.specs.Prelude.{[]}
+-- What the kernel's fields mean, and what is always true of them.
+use Rattle.std.specs.Prelude.{Bool, true, false, Option, Some, None, length}
 use Rattle.kern_model.specs.State.{Kernel}
+use Rattle.kern_model.specs.Micro.{Lists}
 use Rattle.kern_model.specs.Valid.{IsLinked}
-use Rattle.kernel_calls.specs.Served.{IsServed}
-use Rattle.kernel_calls.specs.ListView.{lists_in}
+use Rattle.micro_steps.specs.Halfway.{seen_lists}
+use Rattle.kern_base.specs.declared.outcomes.Around.{Around}
+use Rattle.micro_steps.specs.Whole.{StepsRecord}
+use Rattle.link_plans.specs.declared.plan.Plan.{Plan}
+use Rattle.kernel_records.specs.RecordsRecord.{RecordsRecord, with_lists}
+use Rattle.kernel_records.specs.Served.{IsServed}
+use Rattle.kernel_calls.specs.Works.{WorkRecord}
 use Rattle.kernel_calls.specs.KernelRecord.{KernelRecord}
-use Rattle.kernel_calls.specs.ObjectView.{objects_in}
-use Rattle.kernel_calls.specs.declared.kernels.Kernel.TheInside.{Inside}
+use Rattle.kernel_calls.specs.Stepping.{AreNodes, IsHand}
 
-abbrev pub state_of : Inside → Kernel
-state_of a =
-    record {
-      tasks = a.tasks.tasks;
-      objects = objects_in a.objects.items;
-      ready = lists_in a.ready.items;
-      pend = lists_in a.pend.items;
-      matches = a.matches.items;
-      timer_matches = [];
-      ticks = a.ticks;
-      timer_count = a.timer_count;
-      tick_signals = a.tick_signals;
-      timer_signals = a.timer_signals;
-      tick_calls = a.tick_calls;
-      processing = a.processing;
-      in_callback = a.in_callback;
-      lock = a.lock;
-      free = a.free;
-      settings = record { tasks = a.settings.tasks; round_robin = a.settings.round_robin; tmr_div = a.settings.tmr_div; pool = a.settings.pool };
-    }
+-- the kernel of these records and these lists of nodes
+abbrev pub state_with : Kernel → Lists → Kernel
+state_with k l = with_lists k (seen_lists (length k.objects) l)
 
-abbrev pub kernel_of : Inside → KernelRecord
-kernel_of a = record { state = state_of a; registers = a.tasks.registers }
+abbrev pub hand_of : Bool → WorkRecord → Option WorkRecord
+hand_of true w = Some w
+hand_of false w = None
+
+abbrev pub kernel_of : RecordsRecord → StepsRecord → WorkRecord → Bool → KernelRecord
+kernel_of r s w busy = record { state = state_with r.state s.start; registers = r.registers; hand = hand_of busy w }
 
 -- what is always true of the fields
-pub record IsSound (a : Inside) : Type 0 where
-  pub valid : IsLinked (state_of a)
-  pub served : IsServed (state_of a)
+pub record IsSound (r : RecordsRecord) (s : StepsRecord) (q : Plan) (seen : Around) (w : WorkRecord) (busy : Bool) : Type 0 where
+  pub valid : IsLinked (state_with r.state s.start)
+  pub served : IsServed (state_with r.state s.start)
+  pub nodes : AreNodes (state_with r.state s.start) s.start
+  pub hand : IsHand busy w q seen (state_with r.state s.start) s

@@ -1,9 +1,5 @@
-pub mod KernelRecord
-pub mod ObjectView
-pub mod ListView
-pub mod TaskChanges
-pub mod Served
-pub mod KernelView
 pub mod Works
+pub mod KernelRecord
+pub mod Stepping
 pub mod WorkView
-pub mod Decisions
+pub mod KernelView

@@ -1,22 +1,21 @@
 -- A whole step in hand: one call of a service or one take of a post, one micro-step at a time.
-use Rattle.std.specs.Prelude.{ℕ, ◌≡◌, ◌⊎◌, ◌<◌, ◌≤◌, ◌+◌, ◌-◌}
+use Rattle.std.specs.Prelude.{ℕ, ◌≡◌, ◌⊎◌, ◌+◌}
 use Rattle.kern_base.specs.Checks.{IsPost}
 use Rattle.kern_base.specs.declared.requests.Request.{Request}
 use Rattle.kern_model.specs.Call.{call_of}
 use Rattle.kern_model.specs.State.{Kernel}
 use Rattle.kern_model.specs.Effect.{Effect}
-use Rattle.kern_model.specs.Services.{effect, program_serves, cost, post_request}
+use Rattle.kern_model.specs.Services.{effect, program_serves, post_request}
 use Rattle.kern_model.specs.Valid.{MayCall}
 
 -- The work: its caller, its request, the priority whose list round robin looks at, the priority that readied tasks are
--- compared with, and how many micro-steps are done and left.
+-- compared with, and how many micro-steps are done.
 pub record WorkRecord : Type 0 where
   pub caller : ℕ
   pub request : Request
   pub interrupted : ℕ
   pub compared : ℕ
   pub done : ℕ
-  pub left : ℕ
 
 -- Who may begin: a task that may call, or the handler of deferred posts with one of the six posts.
 abbrev pub MayBegin : ℕ → Request → Kernel → Type 0
@@ -27,17 +26,9 @@ abbrev pub effect_of : WorkRecord → Kernel → Effect
 effect_of w k = effect program_serves (call_of w.request w.caller w.interrupted w.compared) k
 
 -- the work at its beginning
-abbrev pub begun : ℕ → Request → ℕ → ℕ → Kernel → WorkRecord
-begun x r c h k = record { caller = x; request = r; interrupted = c; compared = h; done = 0; left = cost (effect program_serves (call_of r x c h) k) k }
-
--- The work was begun on this kernel, and so many of its micro-steps are done and left.
-pub record IsBegun (w : WorkRecord) (k : Kernel) : Type 0 where
-  pub caller : w.caller < 64
-  pub may : MayBegin w.caller w.request k
-  pub total : w.done + w.left ≡ cost (effect_of w k) k
-  pub open_yet : 0 < w.left
-  pub bounded : w.done + w.left ≤ 1200
+abbrev pub begun : ℕ → Request → ℕ → ℕ → WorkRecord
+begun x r c h = record { caller = x; request = r; interrupted = c; compared = h; done = 0 }
 
 -- one micro-step later
 abbrev pub stepped : WorkRecord → WorkRecord
-stepped w = record w { done = w.done + 1; left = w.left - 1 }
+stepped w = record w { done = w.done + 1 }

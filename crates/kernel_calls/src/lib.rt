@@ -1,17 +1,17 @@
-//! The kernel: its tasks, objects and lists, and its services, one micro-step at a time.
+//! The kernel: its records, its lists over links, and its services, which are made one micro-step at a time.
+//!
+//! A whole step is a call of a task or a post. `begin` decides what it comes to; each micro-step changes one link of one list, and
+//! the last one makes in the records what was decided. The kernel owns the step in hand: what stands of it in the lists is never
+//! apart from the kernel on which it was begun.
 #![tactic(auto)]
 
-mod calls;
 mod kernels;
-mod lists;
-mod objects;
-mod starts;
-mod tasks;
+mod making;
+mod planning;
+mod starting;
+mod stepping;
 mod work;
 
-pub use kern_base::{Outcome, UnitEnd};
 pub use kernels::Kernel;
-pub use work::{Progress, Work};
-
-#[cfg(test)]
-mod tests;
+pub use stepping::Progress;
+pub use work::Work;

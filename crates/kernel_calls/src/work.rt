@@ -1,24 +1,22 @@
 // A whole step in hand.
 
-ghost use Rattle.std.specs.Prelude.{◌≡◌, ◌==◌};
+ghost use Rattle.std.specs.Prelude.{◌≡◌, ◌==◌, ◌-◌, ◌<◌, ◌^◌};
+ghost use Rattle.kernel_calls.specs.Works.{begun, stepped};
 
-use kern_base::{Outcome, Prio, Request, Service, TaskId};
+use kern_base::{Prio, Request, Service, TaskId};
 use std::marker::Model;
 
-// The handler of deferred posts. A post of interrupt code that acts at once has no caller, and its number stands
-// for one.
+// The handler of deferred posts. A post of interrupt code that acts at once has no caller, and its number stands for one.
 pub(crate) const HANDLER: TaskId = TaskId(63);
 
-/// A whole step in hand: a call of a service that was begun, or the take of a post, and how many of its
-/// micro-steps are done and left.
+/// A whole step in hand: a call of a service that was begun, or the take of a post, and how many of its micro-steps are done.
 #[derive(Drop)]
 pub struct Work {
-    pub(crate) caller: TaskId,
-    pub(crate) request: Request,
-    pub(crate) interrupted: Prio,
-    pub(crate) compared: Prio,
-    pub(crate) done: u32,
-    pub(crate) left: u32,
+    caller: TaskId,
+    request: Request,
+    interrupted: Prio,
+    compared: Prio,
+    done: u32,
 }
 
 impl Model for Work {
@@ -32,6 +30,49 @@ impl Model for Work {
 }
 
 impl Work {
+    // No work yet.
+    pub(crate) fn none() -> Work {
+        Work {
+            caller: HANDLER,
+            request: Request {
+                service: Service::Unknown(0),
+                args: [0; 4],
+                ids: [0; 8],
+                n_ids: 0,
+                table: false,
+            },
+            interrupted: Prio(0),
+            compared: Prio(0),
+            done: 0,
+        }
+    }
+
+    // A work at its beginning, in place of another.
+    pub(crate) fn begin(&mut self, caller: TaskId, request: &Request, interrupted: Prio, compared: Prio)
+        ensures { self.new ≡ begun caller.0 request.now interrupted.0 compared.0 }
+    {
+        self.caller = caller;
+        self.request = *request;
+        self.interrupted = interrupted;
+        self.compared = compared;
+        self.done = 0;
+    }
+
+    // One micro-step is done.
+    pub(crate) fn count(&mut self)
+        requires { self.old.done < 2 ^ 32 - 1 }
+        ensures { self.new ≡ stepped self.old }
+    {
+        self.done += 1;
+    }
+
+    /// What is asked.
+    pub fn request(&self) -> &Request
+        ensures { result.now ≡ self.now.request }
+    {
+        &self.request
+    }
+
     /// The service that is called.
     pub fn service(&self) -> Service
         ensures { result ≡ self.now.request.service }
@@ -59,20 +100,4 @@ impl Work {
     {
         self.caller == HANDLER
     }
-
-    /// Whether the next micro-step is the last one.
-    pub fn is_last(&self) -> bool
-        ensures { result ≡ (self.now.left == 1) }
-    {
-        self.left == 1
-    }
-}
-
-/// What one micro-step came to.
-#[derive(Clone, Copy)]
-pub enum Progress {
-    /// Micro-steps are left.
-    More,
-    /// It was the last one, and the whole step came to this.
-    Done(Outcome),
 }

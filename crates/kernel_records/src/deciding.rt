@@ -1,8 +1,6 @@
 // What is decided of a call.
 
-ghost use Rattle.std.specs.Prelude.{◌≡◌, ◌<◌, true, [], ◌∷◌, None, slice_get};
-ghost use Rattle.kern_base.specs.Checks.{static_error, object_error};
-ghost use Rattle.kern_base.specs.declared.kinds.Kind.TheVariants.{Sem};
+ghost use Rattle.std.specs.Prelude.{◌≡◌, ◌<◌, true, None};
 ghost use Rattle.kern_model.specs.State.{object_at};
 ghost use Rattle.kern_model.specs.Checks.{call_error};
 ghost use Rattle.kern_model.specs.Services.{content_for, program_serves};
@@ -10,8 +8,9 @@ ghost use Rattle.kernel_records.specs.Deciding.{IsRow, IsServedDecision, decisio
 
 use crate::objects::{Content, Object};
 use crate::records::Records;
+use call_checks::argument_refusal;
 use decisions::refuse;
-use kern_base::{Around, Decision, Kind, Kinds, OsErr, Request, Service, TaskId};
+use kern_base::{Around, Decision, OsErr, Request, Service, TaskId};
 
 // Application tasks have the numbers below this.
 const APPLICATION_LIMIT: u8 = 60;
@@ -85,27 +84,5 @@ fn is_served(service: Service) -> bool
     match service {
         Service::SemPost | Service::SemPend => true,
         _ => false,
-    }
-}
-
-// TEMPORARY
-fn argument_refusal(service: Service, args: &[u32; 4], kinds: &Kinds, own: bool) -> Option<OsErr>
-    requires { program_serves service ≡ true }
-    ensures { result ≡ static_error service args.now kinds.now own }
-{
-    let _ = own;
-    match service {
-        Service::SemPost if args[1] == 0 || args[1] == 2 => semaphore_refusal(args[0], kinds),
-        Service::SemPend if args[2] < 2 => semaphore_refusal(args[0], kinds),
-        _ => Some(OsErr::OptionInvalid),
-    }
-}
-
-fn semaphore_refusal(number: u32, kinds: &Kinds) -> Option<OsErr>
-    ensures { result ≡ object_error (Sem ∷ []) (slice_get kinds.now.objects number) }
-{
-    match kinds.object(number) {
-        Some(Kind::Sem) => None,
-        _ => Some(OsErr::ObjectType),
     }
 }

@@ -1,0 +1,77 @@
+-- How the lists, the plan and the whole step in hand go together.
+use Rattle.std.specs.Prelude.{◌≡◌, ◌<◌, ◌≤◌, ℕ, Bool, true, false, List, [], ◌∷◌, length}
+use Rattle.kern_base.specs.declared.numbers.Prio.{Prio}
+use Rattle.kern_base.specs.declared.outcomes.Around.{Around}
+use Rattle.kern_base.specs.declared.outcomes.Who.{Who}
+use Rattle.kern_base.specs.declared.outcomes.Who.TheVariants.{First, All, Matching}
+use Rattle.kern_model.specs.State.{Kernel, list_at, prio_of}
+use Rattle.kern_model.specs.Micro.{Lists, lists_of, whole}
+use Rattle.kern_model.specs.Checks.{argument}
+use Rattle.kern_model.specs.Services.{blocks, cost}
+use Rattle.links.specs.Chain as nodes
+use Rattle.micro_steps.specs.declared.link.Link.{Link}
+use Rattle.micro_steps.specs.Blocks.{prio_in}
+use Rattle.micro_steps.specs.Whole.{IsMidway, StepsRecord, prios_after}
+use Rattle.link_plans.specs.Fits.{IsNoded}
+use Rattle.link_plans.specs.Plans.{links_left}
+use Rattle.link_plans.specs.declared.plan.Plan.{Plan}
+use Rattle.decisions.specs.Around.{IsAround}
+use Rattle.kernel_records.specs.Deciding.{decision_of}
+use Rattle.kernel_records.specs.Concluding.{objects_waited, woken_of}
+use Rattle.kernel_calls.specs.Works.{MayBegin, WorkRecord, effect_of}
+
+-- the present priorities of all tasks are these
+abbrev pub HasPrios : Kernel → List Prio → Type 0
+HasPrios k prios = (x : ℕ) → prio_in prios x ≡ prio_of k x
+
+-- the priorities once these links are made
+abbrev pub prios_over : List Link → List Prio → List Prio
+prios_over [] prios = prios
+prios_over (k ∷ ks) prios = prios_over ks (prios_after k prios)
+
+-- past so many objects nobody waits
+abbrev pub IsPast : ℕ → List (List ℕ) → Type 0
+IsPast objects pend = (o : ℕ) → objects ≤ o → nodes.list_at pend o ≡ []
+
+-- the nodes in the lists are those of the objects for which their tasks wait, and there are none past these
+pub record AreNodes (k : Kernel) (l : Lists) : Type 0 where
+  pub noded : IsNoded k.tasks l.pend
+  pub past : IsPast (length k.objects) l.pend
+
+-- What is planned of a work: what was decided of its request, with this around it, the tasks to be woken and the objects to be
+-- waited for.
+pub record IsPlanned (w : WorkRecord) (q : Plan) (seen : Around) (k : Kernel) : Type 0 where
+  pub around : IsAround seen (list_at k.pend (argument w.request 0)) k
+  pub who : seen.caller.0 ≡ w.caller
+  pub decision : q.decision ≡ decision_of w.request seen k
+  pub caller : q.caller.0 ≡ w.caller
+  pub compared : q.compared.0 ≡ w.compared
+  pub woken : q.woken.items ≡ woken_of q.decision (list_at k.pend (argument w.request 0))
+  pub objects : q.objects.items ≡ objects_waited q.decision w.request
+
+-- A whole step in hand: of its micro-steps so many are made, the others are those of the block in hand and of the links that are
+-- left of the plan, and these end with lists of nodes that fit the kernel after the step.
+pub record IsInHand (w : WorkRecord) (q : Plan) (seen : Around) (k : Kernel) (s : StepsRecord) : Type 0 where
+  pub caller : w.caller < 64
+  pub may : MayBegin w.caller w.request k
+  pub planned : IsPlanned w q seen k
+  pub open_yet : w.done < cost (effect_of w k) k
+  pub end : Lists
+  pub midway : IsMidway (blocks (effect_of w k) k) (lists_of k) w.done (links_left k.tasks q) end s
+  pub nodes : AreNodes (effect_of w k).kernel end
+  pub prios : HasPrios (effect_of w k).kernel (prios_over (links_left k.tasks q) s.prios)
+
+-- nothing is in hand: the lists in both directions are those that were found, and the priorities those of the tasks
+pub record IsResting (k : Kernel) (s : StepsRecord) : Type 0 where
+  pub halves : s.halves ≡ whole s.start
+  pub prios : HasPrios k s.prios
+
+abbrev pub IsHand : Bool → WorkRecord → Plan → Around → Kernel → StepsRecord → Type 0
+IsHand true w q seen k s = IsInHand w q seen k s
+IsHand false w q seen k s = IsResting k s
+
+-- a choice of waiters that looks at none of them
+abbrev pub IsFirstOrAll : Who → Type 0
+IsFirstOrAll First = Unit {0}
+IsFirstOrAll All = Unit {0}
+IsFirstOrAll Matching = ⊥

@@ -1,0 +1,142 @@
+// Whole steps, one micro-step a call.
+
+ghost use Rattle.std.specs.Prelude.{◌≡◌, ◌<◌, ◌+◌, None, Some};
+ghost use Rattle.kern_base.specs.declared.outcomes.Outcome.TheVariants.{Answered};
+ghost use Rattle.kern_model.specs.State.{list_at};
+ghost use Rattle.decisions.specs.Around.{IsAround};
+ghost use Rattle.kern_model.specs.Services.{cost, posted, post_request, program_serves};
+ghost use Rattle.kern_model.specs.Valid.{IsLinked};
+ghost use Rattle.kernel_calls.specs.KernelRecord.{ended, with_state, IsOpen};
+ghost use Rattle.kernel_calls.specs.Works.{MayBegin, begun, effect_of, stepped, WorkRecord};
+
+use crate::kernels::Kernel;
+use crate::planning::{first_waiter, plan_call};
+use crate::work::HANDLER;
+use kern_base::{Answer, Around, Outcome, Post, Prio, Request, TaskId};
+use links::Links;
+use micro_steps::Link;
+
+/// What one micro-step came to.
+#[derive(Clone, Copy)]
+pub enum Progress {
+    /// Micro-steps are left.
+    More,
+    /// It was the last one, and the whole step came to this.
+    Done(Outcome),
+}
+
+// A post as a request.
+fn request_of(post: Post) -> Request
+    ensures { result ≡ post_request post.service post.args }
+{
+    let args = post.args;
+    Request {
+        service: post.service,
+        args,
+        ids: [0; 8],
+        n_ids: 0,
+        table: false,
+    }
+}
+
+impl<L: Links> Kernel<L> {
+    /// Begins a whole step: a call of a task. `interrupted` is the priority whose list round robin looks at, `compared` the one
+    /// that readied tasks are compared with. What the call comes to is decided here, once.
+    pub fn begin(&mut self, caller: TaskId, request: &Request, interrupted: Prio, compared: Prio)
+        requires task { caller.0 < 64 }
+        requires may { MayBegin caller.0 request.now self.old.state }
+        requires free { self.old.hand ≡ None }
+        ensures begun { self.new ≡ record self.old { hand = Some (begun caller.0 request.now interrupted.0 compared.0) } }
+        ensures open_yet { 0 < cost (effect_of (begun caller.0 request.now interrupted.0 compared.0) self.old.state) self.old.state }
+        ensures valid { IsLinked self.new.state }
+    {
+        self.seen = self.around(caller, request.args[0]);
+        let decision = self.records.decide(request, &self.seen);
+        let pend = self.steps.chains().pend();
+        plan_call(&mut self.plan, pend, caller, request, compared, decision);
+        self.work.begin(caller, request, interrupted, compared);
+        self.steps.take(Link::Plain);
+        self.busy = true;
+    }
+
+    /// Begins a take: the handler performs a post that was queued. `saved` is the priority that was saved with the post,
+    /// `compared` the one that readied tasks are compared with.
+    pub fn begin_take(&mut self, post: Post, saved: Prio, compared: Prio)
+        requires free { self.old.hand ≡ None }
+        ensures begun { self.new ≡ record self.old { hand = Some (begun 63 (post_request post.service post.args) saved.0 compared.0) } }
+        ensures open_yet { 0 < cost (effect_of (begun 63 (post_request post.service post.args) saved.0 compared.0) self.old.state) self.old.state }
+        ensures valid { IsLinked self.new.state }
+    {
+        self.begin(HANDLER, &request_of(post), saved, compared);
+    }
+
+    // What stands around an object when a call on it is decided.
+    fn around(&self, caller: TaskId, object: u32) -> Around
+        requires caller { caller.0 < 64 }
+        requires free { self.now.hand ≡ None }
+        ensures around { IsAround result (list_at self.now.state.pend object) self.now.state }
+        ensures caller { result.caller ≡ caller }
+    {
+        Around {
+            caller,
+            locked: self.records.lock() > 0,
+            first: first_waiter(self.steps.chains().pend(), object),
+            prio: self.records.tcb(caller).prio,
+        }
+    }
+
+    /// One micro-step of the step in hand. The last one makes the whole change.
+    pub fn advance(&mut self) -> Progress
+        requires busy { (w : WorkRecord) × (self.old.hand ≡ Some w) }
+
+        // Micro-steps are left: nothing but the lists has changed.
+        ensures more { (w : WorkRecord) → self.old.hand ≡ Some w → w.done + 1 < cost (effect_of w self.old.state) self.old.state
+            → (result ≡ Progress.More) × (self.new ≡ record self.old { hand = Some (stepped w) }) }
+
+        // The last one.
+        ensures done { (w : WorkRecord) → self.old.hand ≡ Some w → w.done + 1 ≡ cost (effect_of w self.old.state) self.old.state
+            → (result ≡ Progress.Done (effect_of w self.old.state).outcome) × (self.new ≡ ended self.old w) }
+        ensures open_yet { IsOpen self.old.hand self.old.state }
+        ensures valid { IsLinked self.new.state }
+    {
+        self.work.count();
+        if !self.steps.step() {
+            return Progress::More;
+        }
+        match self.plan.next_link(self.records.tasks()) {
+            Some(link) => {
+                self.steps.take(link);
+                Progress::More
+            }
+            None => {
+                let outcome = self.records.conclude(
+                    self.work.request(),
+                    &self.seen,
+                    &self.plan.decision,
+                    self.plan.woken.as_slice(),
+                );
+                self.steps.close();
+                self.busy = false;
+                Progress::Done(outcome)
+            }
+        }
+    }
+
+    /// A post of interrupt code, at once and whole. `compared` is the priority whose list round robin looks at, and the one that
+    /// readied tasks are compared with.
+    pub fn post_now(&mut self, post: Post, compared: Prio) -> Answer
+        requires free { self.old.hand ≡ None }
+        ensures answer { (posted program_serves post.service post.args compared.0 compared.0 self.old.state).outcome ≡ Answered result None }
+        ensures kernel { self.new ≡ with_state self.old (posted program_serves post.service post.args compared.0 compared.0 self.old.state).kernel }
+        ensures valid { IsLinked self.new.state }
+    {
+        self.begin_take(post, compared, compared);
+        loop {
+            match self.advance() {
+                Progress::More => {}
+                Progress::Done(Outcome::Answered(answer, _)) => return answer,
+                Progress::Done(_) => unreachable!(),
+            }
+        }
+    }
+}
