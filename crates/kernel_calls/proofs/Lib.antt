@@ -1,0 +1,3 @@
+pub mod StepFacts
+pub mod ServedFacts
+pub mod EndFacts
