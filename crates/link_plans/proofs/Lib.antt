@@ -5,3 +5,4 @@ pub mod WakeKeeps
 pub mod NodeLaws
 pub mod BlockFits
 pub mod NodeKeeps
+pub mod Past
