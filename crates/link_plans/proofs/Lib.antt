@@ -6,3 +6,4 @@ pub mod NodeLaws
 pub mod BlockFits
 pub mod NodeKeeps
 pub mod Past
+pub mod MoveFacts
