@@ -7,3 +7,5 @@ pub mod BlockFits
 pub mod NodeKeeps
 pub mod Past
 pub mod MoveFacts
+pub mod MoveSeen
+pub mod Rewaits
