@@ -9,3 +9,4 @@ pub mod Past
 pub mod MoveFacts
 pub mod MoveSeen
 pub mod Rewaits
+pub mod MovesHold

@@ -259,11 +259,11 @@ module _ (n : ℕ) (ts : List Task) (x p : ℕ) (prio : ℕ → ℕ) (most : n �
     pub noded : IsNoded ts (lists_after prios (rewait_links x p i os) l).pend
     pub others : (y : ℕ) → (y ≡ x → ⊥) → prio_in (prios_all prios (rewait_links x p i os)) y ≡ prio_in prios y
     pub mine : (prio_in prios x ≡ p) ⊎ (0 < length os) → prio_in (prios_all prios (rewait_links x p i os)) x ≡ p
-    pub long : x < length (prios_all prios (rewait_links x p i os))
+    pub long : length (prios_all prios (rewait_links x p i os)) ≡ length prios
 
   pub rewaits : (prios : List Prio) (i : ℕ) (front os : List ℕ) (l t : Lists) → front ++ os ≡ all → length front ≡ i → Stands prios os l t → Rewaited prios i os l t
   rewaits prios i front [] l t parts at s =
-      record { fits = tt; blocks = refl; seen = s.seen; noded = s.noded; others = λ y far. refl; mine = λ e. elim e [ inl h ↦ h | inr h ↦ absurd (not-suc-le-zero {n = 0} h) ]; long = s.long }
+      record { fits = tt; blocks = refl; seen = s.seen; noded = s.noded; others = λ y far. refl; mine = λ e. elim e [ inl h ↦ h | inr h ↦ absurd (not-suc-le-zero {n = 0} h) ]; long = refl }
   rewaits prios i front (o ∷ os) l t parts at s =
       let m = 8 * x + i in
       let q : Prio = record { 0 = p } in
@@ -288,5 +288,5 @@ module _ (n : ℕ) (ts : List Task) (x p : ℕ) (prio : ℕ → ℕ) (most : n �
         noded = subst (λ (a : Lists). IsNoded ts (lists_after now (rewait_links x p (i + 1) os) a).pend) (sym here) rest.noded;
         others = λ y far. rest.others y far ∙ now_other prios i o front os l t parts at s y far;
         mine = λ either. rest.mine (inl (now_own prios i o front os l t parts at s));
-        long = rest.long;
+        long = rest.long ∙ length-set prios (m / 8) q;
       }
