@@ -31,6 +31,14 @@ use Rattle.kernel_calls.specs.KernelView.{IsSound, state_with}
 use Rattle.kernel_calls.proofs.ServedFacts.{served-decided}
 use Rattle.kernel_calls.proofs.StepFacts.{cost-below, may-call, none-left}
 
+-- no call makes or loses an object
+pub objects-kept : (w : WorkRecord) (k : Kernel) → length (effect_of w k).kernel.objects ≡ length k.objects
+objects-kept w k =
+    let kind : Object → Kind = λ b. kind_of b.content in
+    sym (length-map (effect_of w k).kernel.objects kind)
+    ∙ ap (λ (t : KindTable). length t.objects) (kinds-effect program_serves (call_of w.request w.caller w.interrupted w.compared) k)
+    ∙ length-map k.objects kind
+
 -- the kernel of records and lists that are those of another
 made-of : (rs e : Kernel) (l : Lists) → without_lists rs ≡ without_lists e → seen_lists (length e.objects) l ≡ lists_of e → state_with rs l ≡ e
 made-of rs e l a b =
@@ -79,10 +87,7 @@ module _ (w : WorkRecord) (q : Plan) (around : Around) (rs : Kernel) (start : Li
     forward-made = ap (λ (j : Halves). j.forward) lists-made
 
     objects-made : length before.pend ≡ length made.kernel.objects
-    objects-made =
-        let kind : Object → Kind = λ b. kind_of b.content in
-        let same = ap (λ (t : KindTable). length t.objects) (kinds-effect program_serves (call_of w.request w.caller w.interrupted w.compared) before) in
-        v.sizes.pend ∙ sym (length-map before.objects kind) ∙ sym same ∙ length-map made.kernel.objects kind
+    objects-made = v.sizes.pend ∙ sym (objects-kept w before)
 
     pub halves-made : s.halves ≡ whole s.halves.forward
     halves-made = whole-of s.halves (lists_of made.kernel) (length before.pend) p.even.ready p.even.pend lists-made

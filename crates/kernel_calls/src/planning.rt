@@ -36,11 +36,11 @@ pub(crate) fn no_plan() -> Plan {
 pub(crate) fn first_waiter<L: Links>(pend: &PendLists<L>, number: u32) -> Option<TaskId>
     ensures { result ≡ first_waiter (list_at (tasks_in pend.now.forward) number) }
 {
-    if number < OBJECTS {
-        pend.first(ObjId(number as u8))
-    } else {
-        None
+    if number >= OBJECTS {
+        pend.consistent();
+        return None;
     }
+    pend.first(ObjId(number as u8))
 }
 
 // Plans what was decided of a call.
@@ -83,6 +83,7 @@ fn choose<L: Links>(woken: &mut ArrayVec<u8, 64>, pend: &PendLists<L>, number: u
     ensures { woken.new.items ≡ woken_of (Wake who) (list_at (tasks_in pend.now.forward) number) }
 {
     if number >= OBJECTS {
+        pend.consistent();
         return;
     }
     let object = ObjId(number as u8);

@@ -1,5 +1,5 @@
 -- What a refusal and a call without success leave as it was, and on which service a decision can be.
-use Rattle.std.proofs.Common.{◌≡◌, ℕ, ◌<◌, ◌+◌, ◌-◌, List, [], ◌∷◌, map, length, get_or, refl, sym, ap, ◌∙◌, subst, Bool, true, false, ◌&&◌, ◌||◌, not, Option, Some, None}
+use Rattle.std.proofs.Common.{◌≡◌, ℕ, zero, suc, ◌<◌, ◌+◌, ◌-◌, List, [], ◌∷◌, map, length, get_or, refl, sym, ap, ◌∙◌, subst, Bool, true, false, ◌&&◌, ◌||◌, not, Option, Some, None}
 use Rattle.std.specs.Prelude.{if◌then◌else◌, ◌==◌, nat_lt, slice_get, slice_index, slice_set}
 use Rattle.std.proofs.lemmas.Bool.{false≢true}
 use Rattle.std.proofs.lemmas.List.{set-get_or, map-set}
@@ -22,9 +22,12 @@ use Rattle.kern_model.specs.Effect.{refused}
 use Rattle.kern_model.specs.Checks.{argument, call_error, existence_error, first_error, is_deleted, named_task}
 use Rattle.kern_model.specs.Services.{content_for, program_serves}
 use Rattle.kern_model.proofs.Lemmas.{checked_object}
-use Rattle.decisions.specs.Rows.{is_no_error, is_success, refusal}
+use Rattle.decisions.specs.Rows.{is_no_error, is_success, refusal, wait_decision}
 use Rattle.decisions.specs.Decided.{decided}
+use Rattle.semaphores.specs.Rows as semaphore
 use Rattle.semaphores.specs.Rows.{IsSemaphoreCall, count_after}
+use Rattle.kern_model.specs.Micro.{Lists}
+use Rattle.kernel_records.specs.RecordsRecord.{with_lists}
 use Rattle.kernel_records.specs.Deciding.{content_after, decision_after, decision_by, decision_of, own_change}
 
 -- an object that keeps what it holds
@@ -135,3 +138,31 @@ success-acts (Wake who) h = absurd (false≢true h)
 -- its object is there
 pub acting-inside : (r : Request) (seen : Around) (d : Decision) (k : Kernel) → d ≡ decision_of r seen k → Acts d ≡ true → argument r 0 < length k.objects
 acting-inside r seen d k h a = let it = acting r seen d k h a in checked_object r seen.caller.0 k Sem [] it.call it.passed
+
+-- a wait of a semaphore blocks only where the scheduler is not locked
+unlocked-wait : (nb locked : Bool) → wait_decision nb locked ≡ Block → locked ≡ false
+unlocked-wait true locked h = absurd cc
+unlocked-wait false true h = absurd cc
+unlocked-wait false false h = refl
+
+unlocked-pend : (n opt : ℕ) (locked : Bool) → semaphore.pend_decision n opt locked ≡ Block → locked ≡ false
+unlocked-pend zero opt locked h = unlocked-wait (opt == 1) locked h
+unlocked-pend (suc n) opt locked h = absurd cc
+
+unlocked-for : (s : Service) (n : ℕ) (r : Request) (seen : Around) → s ≡ SemPend → semaphore.decision_for s n r seen ≡ Block → seen.locked ≡ false
+unlocked-for s n r seen e h = unlocked-pend n (argument r 2) seen.locked (subst (λ u. semaphore.decision_for u n r seen ≡ Block) e h)
+
+pub unlocked-by : (c : Content) (r : Request) (seen : Around) → r.service ≡ SemPend → decision_by c r seen ≡ Block → seen.locked ≡ false
+unlocked-by (Count n) r seen e h = unlocked-for r.service n r seen e h
+unlocked-by (Messages limit ms) r seen e h = absurd cc
+unlocked-by (Bits bits) r seen e h = absurd cc
+unlocked-by (Held owner nesting) r seen e h = absurd cc
+unlocked-by (Timed t) r seen e h = absurd cc
+
+-- no decision looks at lists
+after-lists : (e : Option OsErr) (r : Request) (seen : Around) (k : Kernel) (l : Lists) → decision_after e r seen k ≡ decision_after e r seen (with_lists k l)
+after-lists (Some err) r seen k l = refl
+after-lists None r seen k l = refl
+
+pub decision-lists : (r : Request) (seen : Around) (k : Kernel) (l : Lists) → decision_of r seen k ≡ decision_of r seen (with_lists k l)
+decision-lists r seen k l = ap (λ d. if program_serves r.service then d else refusal CallUnknown) (after-lists (call_error r seen.caller.0 k) r seen k l)

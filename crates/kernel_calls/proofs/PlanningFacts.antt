@@ -1,0 +1,80 @@
+-- Waiters of an object that there is not.
+use Rattle.std.proofs.Common.{◌≡◌, ℕ, ◌<◌, ◌≤◌, ◌/◌, List, [], ◌∷◌, length, map, take, get_or, refl, sym, ap, ◌∙◌, subst, inl, inr, Bool, true, false, not, zero, suc, arith}
+use Rattle.std.specs.Prelude.{nat_lt, ◌==◌}
+use Rattle.std.proofs.lemmas.Bool.Decides.{eqb_tells, leb_tells}
+use Rattle.std.proofs.lemmas.List.{get_or_past, length-map}
+use Rattle.std.proofs.lemmas.Grind.{common_steps}
+use Rattle.kern_model.specs.State.{Kernel, list_at}
+use Rattle.kern_model.specs.Checks.{argument}
+use Rattle.kern_model.specs.Effect.{chosen}
+use Rattle.kern_model.specs.Valid.{AllWait}
+use Rattle.kern_model.proofs.Lemmas.{AllWait-chosen}
+use Rattle.decisions.specs.Decided.{wait_of}
+use Rattle.kernel_records.specs.Deciding.{IsServedDecision, decision_of}
+use Rattle.kernel_records.proofs.DecidingFacts.{acting-inside}
+use Rattle.std.specs.Prelude.{All as AllOf}
+use Rattle.std.proofs.lemmas.List.Elements.{All-nil, All-cons}
+use Rattle.kern_base.specs.declared.requests.Request.{Request}
+use Rattle.kern_base.specs.declared.outcomes.Around.{Around}
+use Rattle.kern_base.specs.declared.outcomes.Decision.{Decision}
+use Rattle.kern_base.specs.declared.outcomes.Decision.TheVariants.{Done, Block, Wake}
+use Rattle.kern_base.specs.declared.outcomes.Who.{Who}
+use Rattle.kern_base.specs.declared.outcomes.Who.TheVariants.{First, All, Matching}
+use Rattle.links.specs.Chain as nodes
+use Rattle.micro_steps.specs.Halfway.{tasks_in}
+use Rattle.micro_steps.proofs.Seen.{list_at-take, list_at-tasks}
+use Rattle.pend_lists.specs.Pending.{AreNodeLists}
+use Rattle.kernel_records.specs.Concluding.{objects_waited, woken_of}
+use Rattle.kernel_calls.specs.Stepping.{IsPast}
+
+-- past the lists nobody waits
+pub none-past : (lists : List (List ℕ)) (o : ℕ) → AreNodeLists lists → 64 ≤ o → list_at (tasks_in lists) o ≡ []
+none-past lists o a h =
+    let count : length (tasks_in lists) ≡ 64 = length-map lists (map (λ n. n / 8)) ∙ a.count in
+    get_or_past (tasks_in lists) o [] (omega arith)
+
+pub none-woken : (who : Who) → woken_of (Wake who) [] ≡ []
+none-woken First = refl
+none-woken All = refl
+none-woken Matching = refl
+
+-- the kernel's lists of waiters are all that there are
+pub all-waiters : (n : ℕ) (lists : List (List ℕ)) (o : ℕ) → IsPast n lists → list_at (take n (tasks_in lists)) o ≡ list_at (tasks_in lists) o
+all-waiters n lists o p =
+    elim (leb_tells n o) [
+      | inl d ↦
+          let few : length (take n (tasks_in lists)) ≤ n = grind (arith, common_steps) in
+          get_or_past (take n (tasks_in lists)) o [] (omega (arith, d.1)) ∙ sym (list_at-tasks lists o ∙ ap (map (λ m. m / 8)) (p o d.1))
+      | inr d ↦ list_at-take n (tasks_in lists) o d.1
+    ]
+
+-- the lock is on
+not-zero : (n : ℕ) → 1 ≤ n → (n == 0) ≡ false
+not-zero n h = elim (eqb_tells n 0) [ inl e ↦ absurd (let z = e.1 in omega arith) | inr e ↦ e.0 ]
+
+is-zero : (n : ℕ) → n < 1 → (n == 0) ≡ true
+is-zero n h = elim (eqb_tells n 0) [ inl e ↦ e.0 | inr e ↦ absurd (e.1 (omega arith)) ]
+
+pub is-locked : (n : ℕ) → nat_lt 0 n ≡ not (n == 0)
+is-locked n = elim (leb_tells 1 n) [ inl a ↦ a.0 ∙ sym (ap not (not-zero n a.1)) | inr b ↦ b.0 ∙ sym (ap not (is-zero n b.1)) ]
+
+-- waiters are numbers of tasks
+waiters-below : (k : Kernel) (xs : List ℕ) → AllWait k xs → AllOf (λ x. x < 64) xs
+waiters-below k [] w = All-nil (λ x. x < 64)
+waiters-below k (x ∷ xs) w = All-cons (λ x. x < 64) x xs (omega (arith, w.0)) (waiters-below k xs w.3)
+
+pub woken-below : (d : Decision) (k : Kernel) (xs : List ℕ) → AllWait k xs → AllOf (λ x. x < 64) (woken_of d xs)
+woken-below (Done a) k xs w = All-nil (λ x. x < 64)
+woken-below Block k xs w = All-nil (λ x. x < 64)
+woken-below (Wake First) k xs w = waiters-below k (chosen false xs) (AllWait-chosen k false xs w)
+woken-below (Wake All) k xs w = waiters-below k xs w
+woken-below (Wake Matching) k xs w = All-nil (λ x. x < 64)
+
+-- and what is waited for is one of 64 objects
+pub objects-below : (d : Decision) (r : Request) (seen : Around) (k : Kernel) → d ≡ decision_of r seen k → IsServedDecision d r.service → length k.objects ≤ 64 → AllOf (λ o. o < 64) (objects_waited d r)
+objects-below (Done a) r seen k e s n = All-nil (λ o. o < 64)
+objects-below Block r seen k e s n =
+    let inside = acting-inside r seen Block k e refl in
+    let one : (wait_of r.service r).objects ≡ argument r 0 ∷ [] = ap (λ u. (wait_of u r).objects) s in
+    subst (AllOf (λ o. o < 64)) (sym one) (All-cons (λ o. o < 64) (argument r 0) [] (omega arith) (All-nil (λ o. o < 64)))
+objects-below (Wake who) r seen k e s n = All-nil (λ o. o < 64)
