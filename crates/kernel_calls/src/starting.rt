@@ -52,6 +52,7 @@ impl<L: Links> Kernel<L> {
 
 // The present priorities of all tasks.
 fn prios_of(records: &Records) -> [Prio; 64]
+    requires { length records.now.state.tasks ≡ 64 }
     ensures { HasPrios records.now.state result }
 {
     let mut prios = [Prio(63); 64];
@@ -71,6 +72,9 @@ fn join_ready<L: Links>(steps: &mut Steps<L>, tasks: &[TaskDef])
     ensures prios { steps.new.prios ≡ steps.old.prios }
 {
     for (index, def) in tasks.iter().enumerate() {
-        make(steps, Link::Ready(TaskId(index as u8), Prio(def.prio as u8), true));
+        make(
+            steps,
+            Link::Ready(TaskId(index as u8), Prio(def.prio as u8), true),
+        );
     }
 }
