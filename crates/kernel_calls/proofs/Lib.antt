@@ -1,1 +1,4 @@
 pub mod MakeFacts
+pub mod StopFacts
+pub mod PickFacts
+pub mod StartFacts
