@@ -67,6 +67,7 @@ fn join_ready<L: Links>(steps: &mut Steps<L>, tasks: &[TaskDef])
     requires few { length tasks.now ≤ 60 }
     requires small { All (λ d. d.prio < 63) tasks.now }
     requires empty { steps.old.halves ≡ whole no_lists }
+    requires found { steps.old.start ≡ no_lists }
     ensures halves { steps.new.halves ≡ whole (record { ready = ready_from tasks.now 0 63 ++ [] ∷ []; pend = replicate 64 [] }) }
     ensures start { steps.new.start ≡ steps.new.halves.forward }
     ensures prios { steps.new.prios ≡ steps.old.prios }
