@@ -3,19 +3,32 @@ use Rattle.std.proofs.Common.{◌≡◌, ◌≢◌, ◌<◌, ◌≤◌, ℕ, zer
 use Rattle.std.specs.Prelude.{All, ◌==◌, if◌then◌else◌}
 use Rattle.std.proofs.Math.ListN.{set}
 use Rattle.std.proofs.Math.Seq.{take-length, drop-length}
-use Rattle.std.proofs.lemmas.List.{append-nil, length-append, take_more, take_all}
+use Rattle.std.proofs.lemmas.List.{length-map, take_all}
 use Rattle.std.proofs.lemmas.List.Sums.{sum_by-cons}
 use Rattle.std.proofs.lemmas.Bool.Decides.{eqb_tells}
+use Rattle.app_image.specs.Image.{ImageRecord, IsValidImage}
+use Rattle.app_image.specs.Layout.{HasWords}
 use Rattle.app_image.specs.declared.records.TaskDef.{TaskDef}
 use Rattle.kern_base.specs.declared.numbers.Prio.{Prio}
 use Rattle.kern_base.specs.declared.numbers.TaskId.{TaskId}
+use Rattle.kern_base.specs.declared.outcomes.Around.{Around}
 use Rattle.kern_model.specs.Micro.{Halves, Lists, after, whole}
-use Rattle.kern_model.specs.Start.{ready_from, tasks_of}
+use Rattle.kern_model.specs.Start.{object_of, ready_from, start_state, start_tasks, tasks_of}
+use Rattle.kern_model.specs.Valid.{IsLinked}
+use Rattle.kern_laws.proofs.Start.Linked.{each}
+use Rattle.kern_laws.proofs.Start.Valid.{valid-start}
 use Rattle.links.specs.Chain.{times, total, list_at}
 use Rattle.micro_steps.specs.declared.link.Link.TheVariants as link
 use Rattle.micro_steps.specs.Blocks.{block_of}
+use Rattle.micro_steps.specs.Halfway.{tasks_in}
 use Rattle.micro_steps.specs.Starts.{no_lists}
-use Rattle.micro_steps.specs.Whole.{FitsLink}
+use Rattle.micro_steps.specs.Whole.{FitsLink, StepsRecord}
+use Rattle.link_plans.specs.declared.plan.Plan.{Plan}
+use Rattle.kernel_records.specs.RecordsRecord.{RecordsRecord, records_at_start}
+use Rattle.kernel_records.specs.Served.{IsServed, IsServedResult, IsServedWait}
+use Rattle.kernel_calls.specs.KernelView.{IsSound, state_with}
+use Rattle.kernel_calls.specs.Stepping.{HasPrios}
+use Rattle.kernel_calls.specs.Works.{WorkRecord}
 
 -- the tasks of a priority, and one task more
 
@@ -114,3 +127,79 @@ joined_by-fits x p tail ds few inside low = (inside, low, total-after ds x.0 0 6
 pub joined_by-all : (ds : List TaskDef) (i : ℕ) → length ds ≤ i → joined_by (take i ds) ≡ record { ready = ready_from ds 0 63 ++ [] ∷ []; pend = replicate 64 [] }
 unfolding joined_by
 joined_by-all ds i h = ap joined_by (take_all i ds h)
+
+-- the lists of nodes at the start
+unfoldable pub start_lists : List TaskDef → Lists
+start_lists ds = record { ready = ready_from ds 0 63 ++ (62 ∷ []) ∷ []; pend = replicate 64 [] }
+
+pub joined_by-idle : (prios : List Prio) (x : TaskId) (p : Prio) (ds : List TaskDef) → x.0 ≡ 62 → p.0 ≡ 63 → after (block_of prios (link.Ready x p true) (joined_by ds)) (joined_by ds) ≡ start_lists ds
+unfolding joined_by start_lists
+joined_by-idle prios x p ds e f =
+    let lists = ready_from ds 0 63 ++ [] ∷ [] in
+    ap (λ r. let l : Lists = record { ready = r; pend = replicate 64 [] } in l)
+    (rw (e, f) (ap (set lists 63) (insert-last (list_at lists 63) 62) ∙ last-list ds 0 63 62))
+
+pub joined_by-is : (ds : List TaskDef) → record { ready = ready_from ds 0 63 ++ [] ∷ []; pend = replicate 64 [] } ≡ joined_by ds
+unfolding joined_by
+joined_by-is ds = refl
+
+empty-at : (m o : ℕ) → list_at (replicate m []) o ≡ []
+empty-at zero o = refl
+empty-at (suc m) zero = refl
+empty-at (suc m) (suc o) = empty-at m o
+
+take-empty : (n m : ℕ) → n ≤ m → take n (tasks_in (replicate m [])) ≡ replicate n []
+take-empty zero m h = take-none (tasks_in (replicate m []))
+  where
+    take-none : (lists : List (List ℕ)) → take 0 lists ≡ []
+    take-none [] = refl
+    take-none (xs ∷ lists) = refl
+take-empty (suc n) zero h = absurd (omega (arith, h))
+take-empty (suc n) (suc m) h = ap (λ lists. [] ∷ lists) (take-empty n m (omega (arith, h)))
+
+-- At the start no task waits for anything that is not served.
+served-start : (i : ImageRecord) → IsValidImage i → IsServed (start_state i)
+served-start i v =
+    record {
+      waits = each i v (λ x t. x < 60 → IsServedWait t.waiting) (λ x h l. tt) (λ x g h l. tt) (λ l. absurd (omega arith)) (λ l. absurd (omega arith)) (λ l. tt) (λ x h l. tt);
+      reads = each i v (λ x t. IsServedResult t.answered) (λ x h. tt) (λ x l h. tt) tt tt tt (λ x h. tt);
+    }
+
+pub linked_at_start : (i : ImageRecord) → IsValidImage i → HasWords i → IsLinked (start_state i)
+linked_at_start i v words = (valid-start i v words).links
+
+pub count-tasks : (i : ImageRecord) → IsValidImage i → HasWords i → length (start_tasks i) ≡ 64
+count-tasks i v words = (linked_at_start i v words).sizes.tasks
+
+-- The kernel at the start.
+module _ (i : ImageRecord) (v : IsValidImage i) (words : HasWords i) (r : RecordsRecord) (s : StepsRecord) (is : r ≡ records_at_start i) (halves : s.halves ≡ whole (start_lists i.tasks)) (start : s.start ≡ s.halves.forward) (prios : HasPrios r.state s.prios) where
+  found : s.start ≡ start_lists i.tasks
+  found = start ∙ ap (λ (h : Halves). h.forward) halves
+
+  pub started-state : state_with r.state s.start ≡ start_state i
+  unfolding start_lists
+  started-state =
+      let n = length (map object_of i.objects) in
+      let count : n ≡ length i.objects = length-map i.objects object_of in
+      ap (λ (t : RecordsRecord). state_with t.state s.start) is
+      ∙ ap (state_with (records_at_start i).state) found
+      ∙ ap (λ ps. record (start_state i) { pend = ps }) (take-empty n 64 (omega (arith, count, v.objects_room)) ∙ ap (λ m. replicate m []) count)
+
+  pub started-linked : IsLinked (state_with r.state s.start)
+  started-linked = subst IsLinked (sym started-state) (linked_at_start i v words)
+
+  no_node : (o : ℕ) → list_at s.start.pend o ≡ []
+  unfolding start_lists
+  no_node o = ap (λ (l : Lists). list_at l.pend o) found ∙ empty-at 64 o
+
+  pub started-sound : (q : Plan) (seen : Around) (w : WorkRecord) → IsSound r s q seen w false
+  started-sound q seen w =
+      record {
+        valid = started-linked;
+        served = subst IsServed (sym started-state) (served-start i v);
+        nodes = record {
+          noded = λ o n h. let none : times n (list_at s.start.pend o) ≡ 0 = ap (times n) (no_node o) in absurd (omega (arith, none, h));
+          past = λ o h. no_node o;
+        };
+        hand = record { halves = halves ∙ ap whole (sym found); prios = prios };
+      }

@@ -1,6 +1,7 @@
 // The kernel at the start.
 
 ghost use Rattle.std.specs.Prelude.{◌≡◌, ◌<◌, ◌≤◌, ◌++◌, [], ◌∷◌, All, IfOk, length, replicate};
+ghost use Rattle.app_image.specs.Layout.{HasWords};
 ghost use Rattle.kern_model.specs.Micro.{whole};
 ghost use Rattle.kern_model.specs.Start.{ready_from};
 ghost use Rattle.kern_model.specs.Valid.{IsLinked};
@@ -29,9 +30,10 @@ impl<L: Links> Kernel<L> {
         ensures start { IfOk result (λ k. k ≡ start_of image.now) }
         ensures valid { IfOk result (λ k. IsLinked k.state) }
     {
+        are_words(image);
+        let tasks = image.tasks();
         let records = Records::new(alloc, image)?;
         let mut steps = Steps::new(ready, pend, &prios_of(&records));
-        let tasks = image.tasks();
         join_ready(&mut steps, tasks);
         make(&mut steps, Link::Ready(TaskId(62), Prio(63), true));
         Ok(Kernel {
@@ -48,6 +50,13 @@ impl<L: Links> Kernel<L> {
             busy: false,
         })
     }
+}
+
+// The numbers that an image declares are words, by their type: a law, to be called where the start is to be valid.
+fn are_words(image: &Image)
+    ensures { HasWords image.now }
+{
+    let _ = image.code();
 }
 
 // The present priorities of all tasks.
