@@ -112,12 +112,19 @@ pub joined_by-none : no_lists ≡ joined_by []
 unfolding joined_by
 joined_by-none = ap (λ r. let l : Lists = record { ready = r; pend = replicate 64 [] } in l) (sym (ready_from-none 0 63))
 
-pub joined_by-more : (prios : List Prio) (x : TaskId) (p : Prio) (ds : List TaskDef) (d : TaskDef) → x.0 ≡ length ds → p.0 ≡ d.prio → d.prio < 63 → after (block_of prios (link.Ready x p true) (joined_by ds)) (joined_by ds) ≡ joined_by (ds ++ d ∷ [])
+joined_by-more : (prios : List Prio) (x : TaskId) (p : Prio) (ds : List TaskDef) (d : TaskDef) → x.0 ≡ length ds → p.0 ≡ d.prio → d.prio < 63 → after (block_of prios (link.Ready x p true) (joined_by ds)) (joined_by ds) ≡ joined_by (ds ++ d ∷ [])
 unfolding joined_by
 joined_by-more prios x p ds d e f h =
     let lists = ready_from ds 0 63 ++ [] ∷ [] in
     ap (λ r. let l : Lists = record { ready = r; pend = replicate 64 [] } in l)
     (rw (e, f) (ap (set lists d.prio) (insert-last (list_at lists d.prio) (length ds)) ∙ ready_from-more ds d ([] ∷ []) 0 63 d.prio h (omega arith)))
+
+-- the same of both directions
+pub joins_next : (prios : List Prio) (x : TaskId) (p : Prio) (ds : List TaskDef) (d : TaskDef) (h j : Halves) → h ≡ whole (joined_by ds) → j ≡ whole (after (block_of prios (link.Ready x p true) h.forward) h.forward) → x.0 ≡ length ds → p.0 ≡ d.prio → d.prio < 63 → j ≡ whole (joined_by (ds ++ d ∷ []))
+joins_next prios x p ds d h j before now e f low =
+    now
+    ∙ ap (λ (g : Halves). whole (after (block_of prios (link.Ready x p true) g.forward) g.forward)) before
+    ∙ ap whole (joined_by-more prios x p ds d e f low)
 
 pub joined_by-fits : (x : TaskId) (p : Prio) (tail : Bool) (ds : List TaskDef) → length ds ≤ x.0 → x.0 < 64 → p.0 < 64 → FitsLink 64 (link.Ready x p tail) (joined_by ds)
 unfolding joined_by
@@ -132,16 +139,27 @@ joined_by-all ds i h = ap joined_by (take_all i ds h)
 unfoldable pub start_lists : List TaskDef → Lists
 start_lists ds = record { ready = ready_from ds 0 63 ++ (62 ∷ []) ∷ []; pend = replicate 64 [] }
 
-pub joined_by-idle : (prios : List Prio) (x : TaskId) (p : Prio) (ds : List TaskDef) → x.0 ≡ 62 → p.0 ≡ 63 → after (block_of prios (link.Ready x p true) (joined_by ds)) (joined_by ds) ≡ start_lists ds
+joined_by-idle : (prios : List Prio) (x : TaskId) (p : Prio) (ds : List TaskDef) → x.0 ≡ 62 → p.0 ≡ 63 → after (block_of prios (link.Ready x p true) (joined_by ds)) (joined_by ds) ≡ start_lists ds
 unfolding joined_by start_lists
 joined_by-idle prios x p ds e f =
     let lists = ready_from ds 0 63 ++ [] ∷ [] in
     ap (λ r. let l : Lists = record { ready = r; pend = replicate 64 [] } in l)
     (rw (e, f) (ap (set lists 63) (insert-last (list_at lists 63) 62) ∙ last-list ds 0 63 62))
 
-pub joined_by-is : (ds : List TaskDef) → record { ready = ready_from ds 0 63 ++ [] ∷ []; pend = replicate 64 [] } ≡ joined_by ds
+-- the same of both directions
+pub joins_last : (prios : List Prio) (x : TaskId) (p : Prio) (ds : List TaskDef) (h j : Halves) → h ≡ whole (joined_by ds) → j ≡ whole (after (block_of prios (link.Ready x p true) h.forward) h.forward) → x.0 ≡ 62 → p.0 ≡ 63 → j ≡ whole (start_lists ds)
+joins_last prios x p ds h j before now e f =
+    now
+    ∙ ap (λ (g : Halves). whole (after (block_of prios (link.Ready x p true) g.forward) g.forward)) before
+    ∙ ap whole (joined_by-idle prios x p ds e f)
+
+-- all have joined
+joined_by-is : (ds : List TaskDef) → record { ready = ready_from ds 0 63 ++ [] ∷ []; pend = replicate 64 [] } ≡ joined_by ds
 unfolding joined_by
 joined_by-is ds = refl
+
+pub all_joined : (ds es : List TaskDef) (h : Halves) → h ≡ whole (record { ready = ready_from ds 0 63 ++ [] ∷ []; pend = replicate 64 [] }) → ds ≡ es → h ≡ whole (joined_by es)
+all_joined ds es h e same = e ∙ ap whole (joined_by-is ds) ∙ ap (λ fs. whole (joined_by fs)) same
 
 empty-at : (m o : ℕ) → list_at (replicate m []) o ≡ []
 empty-at zero o = refl

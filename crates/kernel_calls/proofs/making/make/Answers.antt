@@ -1,7 +1,7 @@
-use Rattle.std.proofs.Common.{◌≡◌, ◌+◌, ap, subst, sym, ◌∙◌}
+use Rattle.std.proofs.Common.{◌+◌, ap, subst, sym, ◌∙◌}
 use Rattle.kern_model.specs.Micro.{Halves}
 use Rattle.micro_steps.specs.Starts.{AreChains}
-use Rattle.kernel_calls.proofs.MakeFacts.{all_made, all_seen, fewer_left, lists_made, making_paused, steps_of}
+use Rattle.kernel_calls.proofs.MakeFacts.{all_made, fewer_left, making_paused}
 use Rattle.kernel_calls.proofs.making.make.Goals as goal
 
 pub loop-init : goal.loop-init

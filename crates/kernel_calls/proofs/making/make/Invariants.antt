@@ -1,4 +1,3 @@
-use Rattle.std.proofs.Common.{◌≡◌}
 use Rattle.kernel_calls.proofs.MakeFacts.{IsMaking, left_to_make}
 use Rattle.kernel_calls.proofs.making.make.Given as goal
 

@@ -1,11 +1,10 @@
-use Rattle.std.proofs.Common.{◌≡◌, ◌≤◌, ◌<◌, true, ◌∷◌, [], ◌++◌, ℕ, get_or, length, ap, sym, refl, rules, subst, take, ◌∙◌, arith}
+use Rattle.std.proofs.Common.{◌<◌, true, ◌∷◌, [], ◌++◌, ap, sym, refl, rules, subst, take, ◌∙◌, arith}
 use Rattle.std.proofs.lemmas.List.{length-take-le, take_more}
 use Rattle.app_image.specs.declared.records.TaskDef.{TaskDef}
-use Rattle.kern_model.specs.Micro.{Halves, Lists, after, whole}
+use Rattle.kern_model.specs.Micro.{Halves, whole}
 use Rattle.micro_steps.specs.declared.link.Link.TheVariants as link
-use Rattle.micro_steps.specs.Blocks.{block_of}
 use Rattle.micro_steps.specs.Whole.{FitsLink}
-use Rattle.kernel_calls.proofs.StartFacts.{joined_by, joined_by-all, joined_by-fits, joined_by-more, joined_by-none}
+use Rattle.kernel_calls.proofs.StartFacts.{joined_by, joined_by-all, joined_by-fits, joined_by-none, joins_next}
 use Rattle.kernel_calls.proofs.starting.join_ready.Goals as goal
 
 pub loop-index-init : goal.loop-index-init
@@ -34,15 +33,13 @@ pub loop-index-preserved : goal.loop-index-preserved
 loop-index-preserved g c =
     let i = c.loop-index.index in
     let ds = c.args.tasks.now in
-    let lists = ap (λ (h : Halves). h.forward) c.loop-index.invariant.halves in
     let d = c.index-tasks-index.result in
     let low : d.prio < 63 = subst (λ (e : TaskDef). e.prio < 63) (sym c.index-tasks-index.is) (c.requires.small i d c.loop-index-test.true) in
     let more = take_more ds i d c.loop-index-test.true ∙ ap (λ e. take i ds ++ e ∷ []) (sym c.index-tasks-index.is) in
     record {
       halves =
-        c.make.ensures.halves
-        ∙ ap (λ (l : Lists). whole (after (block_of c.loop-index.steps.prios (link.Ready (record { 0 = i }) (record { 0 = d.prio }) true) l) l)) lists
-        ∙ ap whole (joined_by-more c.loop-index.steps.prios (record { 0 = i }) (record { 0 = d.prio }) (take i ds) d (sym (length-take-le i ds c.loop-index.auto.index-end)) refl low ∙ ap joined_by (sym more));
+          joins_next c.loop-index.steps.prios (record { 0 = i }) (record { 0 = d.prio }) (take i ds) d c.loop-index.steps.halves c.make.new.steps.halves c.loop-index.invariant.halves c.make.ensures.halves (sym (length-take-le i ds c.loop-index.auto.index-end)) refl low
+          ∙ ap (λ es. whole (joined_by es)) (sym more);
       start = c.make.ensures.start;
       prios = c.make.ensures.prios ∙ c.loop-index.invariant.prios;
     }

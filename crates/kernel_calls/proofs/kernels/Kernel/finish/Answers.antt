@@ -1,8 +1,7 @@
-use Rattle.std.proofs.Common.{◌≡◌, ap, sym, ◌∙◌}
+use Rattle.std.proofs.Common.{ap, ◌∙◌}
 use Rattle.kernel_calls.specs.KernelRecord.{KernelRecord}
-use Rattle.kernel_calls.specs.KernelView.{hand_of}
 use Rattle.kernel_records.specs.RecordsRecord.{RecordsRecord}
-use Rattle.kernel_calls.proofs.StopFacts.{finished-linked, finished-sound}
+use Rattle.kernel_calls.proofs.StopFacts.{finished-sound}
 use Rattle.kernel_calls.proofs.kernels.Kernel.finish.Goals as goal
 
 pub invariant_of-self : goal.invariant_of-self

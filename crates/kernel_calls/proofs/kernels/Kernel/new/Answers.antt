@@ -1,14 +1,13 @@
-use Rattle.std.proofs.Common.{◌≡◌, ◌≤◌, ◌<◌, ℕ, true, None, get_or, length, refl, sym, ap, subst, ◌∙◌, arith, rules}
+use Rattle.std.proofs.Common.{◌≡◌, ◌≤◌, ◌<◌, ℕ, true, None, get_or, length, refl, sym, ap, subst, ◌∙◌, arith}
 use Rattle.app_image.specs.declared.records.TaskDef.{TaskDef}
-use Rattle.kern_model.specs.Micro.{Halves, Lists, after, whole}
+use Rattle.kern_model.specs.Micro.{Halves, whole}
 use Rattle.kern_model.specs.Start.{start_state}
 use Rattle.micro_steps.specs.declared.link.Link.TheVariants as link
-use Rattle.micro_steps.specs.Blocks.{block_of}
 use Rattle.micro_steps.specs.Whole.{FitsLink}
 use Rattle.kernel_records.specs.RecordsRecord.{RecordsRecord}
 use Rattle.kernel_calls.specs.KernelRecord.{KernelRecord}
 use Rattle.kernel_calls.specs.Stepping.{HasPrios}
-use Rattle.kernel_calls.proofs.StartFacts.{count-tasks, joined_by, joined_by-fits, joined_by-idle, joined_by-is, start_lists, started-sound, started-state}
+use Rattle.kernel_calls.proofs.StartFacts.{all_joined, count-tasks, joined_by-fits, joins_last, start_lists, started-sound, started-state}
 use Rattle.kernel_calls.proofs.kernels.Kernel.new.Given.{Over}
 use Rattle.kernel_calls.proofs.kernels.Kernel.new.Goals as goal
 
@@ -27,26 +26,21 @@ join_ready-requires g c =
       found = c.new-steps.ensures.start;
     }
 
--- the application tasks have joined
-joined : (g : Over) (c : goal.After-steps-2-1 g) → c.join_ready.new.steps.halves ≡ whole (joined_by c.args.image.now.tasks)
-joined g c = c.join_ready.ensures.halves ∙ ap whole (joined_by-is c.tasks-tasks.result.now) ∙ ap (λ ds. whole (joined_by ds)) c.tasks-tasks.ensures.value
-
 pub make-requires : goal.make-requires
 make-requires g c =
-    let lists = ap (λ (h : Halves). h.forward) (joined g c) in
+    let joined = all_joined c.tasks-tasks.result.now c.args.image.now.tasks c.join_ready.new.steps.halves c.join_ready.ensures.halves c.tasks-tasks.ensures.value in
+    let lists = ap (λ (h : Halves). h.forward) joined in
     record {
-      whole = joined g c ∙ ap whole (sym lists);
+      whole = joined ∙ ap whole (sym lists);
       node = tt;
       fits = subst (FitsLink 64 (link.Ready (record { 0 = 62 }) (record { 0 = 63 }) true)) (sym lists) (joined_by-fits (record { 0 = 62 }) (record { 0 = 63 }) true c.args.image.now.tasks (omega (arith, c.tasks-tasks.ensures.valid.tasks_room)) (omega arith) (omega arith));
     }
 
--- and the idle task
+-- the application tasks and the idle task have joined
 started : (g : Over) (c : goal.After-none g) → c.make.new.steps.halves ≡ whole (start_lists c.args.image.now.tasks)
 started g c =
-    let now = c.join_ready.ensures.halves ∙ ap whole (joined_by-is c.tasks-tasks.result.now) ∙ ap (λ ds. whole (joined_by ds)) c.tasks-tasks.ensures.value in
-    c.make.ensures.halves
-    ∙ ap (λ (h : Halves). whole (after (block_of c.join_ready.new.steps.prios (link.Ready (record { 0 = 62 }) (record { 0 = 63 }) true) h.forward) h.forward)) now
-    ∙ ap whole (joined_by-idle c.join_ready.new.steps.prios (record { 0 = 62 }) (record { 0 = 63 }) c.args.image.now.tasks refl refl)
+    let joined = all_joined c.tasks-tasks.result.now c.args.image.now.tasks c.join_ready.new.steps.halves c.join_ready.ensures.halves c.tasks-tasks.ensures.value in
+    joins_last c.join_ready.new.steps.prios (record { 0 = 62 }) (record { 0 = 63 }) c.args.image.now.tasks c.join_ready.new.steps.halves c.make.new.steps.halves joined c.make.ensures.halves refl refl
 
 has_prios : (g : Over) (c : goal.After-none g) → HasPrios c.in_ok-records.records.state c.make.new.steps.prios
 has_prios g c =
@@ -61,7 +55,7 @@ returns g c =
     let state = started-state c.args.image.now c.tasks-tasks.ensures.valid c.are_words.ensures c.in_ok-records.records c.make.new.steps c.in_ok-records.ensures (started g c) c.make.ensures.start (has_prios g c) in
     record {
       start =
-        ap (λ k. let all : KernelRecord = record { state = k; registers = c.in_ok-records.records.registers; hand = None } in all) state
-        ∙ ap (λ (r : RecordsRecord). let all : KernelRecord = record { state = start_state c.args.image.now; registers = r.registers; hand = None } in all) c.in_ok-records.ensures;
+          ap (λ k. let all : KernelRecord = record { state = k; registers = c.in_ok-records.records.registers; hand = None } in all) state
+          ∙ ap (λ (r : RecordsRecord). let all : KernelRecord = record { state = start_state c.args.image.now; registers = r.registers; hand = None } in all) c.in_ok-records.ensures;
       valid = (invariant_of-result g c).valid;
     }

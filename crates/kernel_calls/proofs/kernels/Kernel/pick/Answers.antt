@@ -1,11 +1,10 @@
-use Rattle.std.proofs.Common.{◌≡◌, Bool, List, ℕ, ap, sym, subst, ◌∙◌, map, Some}
+use Rattle.std.proofs.Common.{ap, sym, ◌∙◌}
 use Rattle.kern_base.specs.declared.numbers.TaskId.{TaskId}
 use Rattle.kern_model.specs.State.{pick}
-use Rattle.kern_model.specs.Micro.{Halves, is_filled}
+use Rattle.kern_model.specs.Micro.{Halves}
 use Rattle.kernel_calls.specs.KernelRecord.{KernelRecord}
 use Rattle.kernel_calls.specs.KernelView.{state_with}
-use Rattle.kernel_calls.specs.Stepping.{IsResting}
-use Rattle.kernel_calls.proofs.PickFacts.{IsHead, first_of-head, first_of-none}
+use Rattle.kernel_calls.proofs.PickFacts.{first_of-head, first_of-none}
 use Rattle.kernel_calls.proofs.StopFacts.{resting}
 use Rattle.kernel_calls.proofs.kernels.Kernel.pick.Goals as goal
 

@@ -1,8 +1,8 @@
-use Rattle.std.proofs.Common.{◌≡◌, ap, sym, ◌∙◌}
+use Rattle.std.proofs.Common.{ap, ◌∙◌}
 use Rattle.kern_model.specs.State.{Task}
 use Rattle.kernel_calls.specs.KernelRecord.{KernelRecord}
 use Rattle.kernel_records.specs.RecordsRecord.{RecordsRecord}
-use Rattle.kernel_calls.proofs.StopFacts.{stopped-linked, stopped-sound}
+use Rattle.kernel_calls.proofs.StopFacts.{stopped-sound}
 use Rattle.kernel_calls.proofs.kernels.Kernel.stop.Goals as goal
 
 pub invariant_of-self : goal.invariant_of-self
