@@ -1,9 +1,9 @@
 -- How the lists, the plan and the whole step in hand go together.
-use Rattle.std.specs.Prelude.{◌≡◌, ◌<◌, ◌≤◌, ℕ, Bool, true, false, List, [], ◌∷◌, length}
+use Rattle.std.specs.Prelude.{◌≡◌, ◌<◌, ◌≤◌, ℕ, Bool, true, false, List, [], ◌∷◌, All, length}
 use Rattle.kern_base.specs.declared.numbers.Prio.{Prio}
 use Rattle.kern_base.specs.declared.outcomes.Around.{Around}
 use Rattle.kern_base.specs.declared.outcomes.Who.{Who}
-use Rattle.kern_base.specs.declared.outcomes.Who.TheVariants.{First, All, Matching}
+use Rattle.kern_base.specs.declared.outcomes.Who.TheVariants as who
 use Rattle.kern_model.specs.State.{Kernel, list_at, prio_of}
 use Rattle.kern_model.specs.Micro.{Lists, lists_of, whole}
 use Rattle.kern_model.specs.Checks.{argument}
@@ -16,7 +16,8 @@ use Rattle.link_plans.specs.Fits.{IsNoded}
 use Rattle.link_plans.specs.Plans.{links_left}
 use Rattle.link_plans.specs.declared.plan.Plan.{Plan}
 use Rattle.decisions.specs.Around.{IsAround}
-use Rattle.kernel_records.specs.Deciding.{decision_of}
+use Rattle.decisions.specs.Decided.{decided}
+use Rattle.kernel_records.specs.Deciding.{IsServedDecision, decision_of, own_change}
 use Rattle.kernel_records.specs.Concluding.{objects_waited, woken_of}
 use Rattle.kernel_calls.specs.Works.{MayBegin, WorkRecord, effect_of}
 
@@ -38,16 +39,20 @@ pub record AreNodes (k : Kernel) (l : Lists) : Type 0 where
   pub noded : IsNoded k.tasks l.pend
   pub past : IsPast (length k.objects) l.pend
 
--- What is planned of a work: what was decided of its request, with this around it, the tasks to be woken and the objects to be
--- waited for.
+-- What is planned of a work: what was decided of its request, with this around it, which is what its service does; the tasks to be
+-- woken and the objects to be waited for.
 pub record IsPlanned (w : WorkRecord) (q : Plan) (seen : Around) (k : Kernel) : Type 0 where
   pub around : IsAround seen (list_at k.pend (argument w.request 0)) k
   pub who : seen.caller.0 ≡ w.caller
   pub decision : q.decision ≡ decision_of w.request seen k
+  pub effect : effect_of w k ≡ decided q.decision w.request.service w.request w.caller w.compared (list_at k.pend (argument w.request 0)) (own_change w.request q.decision k)
+  pub served : IsServedDecision q.decision w.request.service
   pub caller : q.caller.0 ≡ w.caller
   pub compared : q.compared.0 ≡ w.compared
   pub woken : q.woken.items ≡ woken_of q.decision (list_at k.pend (argument w.request 0))
   pub objects : q.objects.items ≡ objects_waited q.decision w.request
+  pub woken_below : All (λ x. x < 64) q.woken.items
+  pub objects_below : All (λ o. o < 64) q.objects.items
 
 -- A whole step in hand: of its micro-steps so many are made, the others are those of the block in hand and of the links that are
 -- left of the plan, and these end with lists of nodes that fit the kernel after the step.
@@ -72,6 +77,6 @@ IsHand false w q seen k s = IsResting k s
 
 -- a choice of waiters that looks at none of them
 abbrev pub IsFirstOrAll : Who → Type 0
-IsFirstOrAll First = Unit {0}
-IsFirstOrAll All = Unit {0}
-IsFirstOrAll Matching = ⊥
+IsFirstOrAll who.First = Unit {0}
+IsFirstOrAll who.All = Unit {0}
+IsFirstOrAll who.Matching = ⊥

@@ -23,10 +23,10 @@ wakes-awakened r h [] k = refl
 wakes-awakened r h (x ∷ xs) k = wakes-awakened r h xs (wakes (handing r (task_at k x)) h x k)
 
 -- a post that wakes deletes nothing and renews nothing
-plain-wake : (s : Service) (o : ℕ) (e : Effect) → s ≡ SemPost → renewed_after (renews s) at_tail (gone_after (ending_of s) o e) ≡ e
+pub plain-wake : (s : Service) (o : ℕ) (e : Effect) → s ≡ SemPost → renewed_after (renews s) at_tail (gone_after (ending_of s) o e) ≡ e
 plain-wake s o e h = subst (λ u. renewed_after (renews u) at_tail (gone_after (ending_of u) o e) ≡ e) (sym h) refl
 
-plain-wait : (s : Service) (e : Effect) → s ≡ SemPend → renewed_after (renews s) at_head e ≡ e
+pub plain-wait : (s : Service) (e : Effect) → s ≡ SemPend → renewed_after (renews s) at_head e ≡ e
 plain-wait s e h = subst (λ u. renewed_after (renews u) at_head e ≡ e) (sym h) refl
 
 pub is-concluded : IsConcluded
@@ -42,6 +42,16 @@ has-outcome Block r x h xs k s = ap (λ (e : Effect). e.outcome) (plain-wait r.s
 has-outcome (Wake First) r x h xs k s = ap (λ (e : Effect). e.outcome) (plain-wake r.service _ _ s)
 has-outcome (Wake All) r x h xs k s = ap (λ (e : Effect). e.outcome) (plain-wake r.service _ _ s)
 has-outcome (Wake Matching) r x h xs k s = absurd s
+
+-- the lists of the kernel have no part in it
+pub awakened-bare : (r : Request) (xs : List ℕ) (k : Kernel) → without_lists (awakened_all r xs k) ≡ awakened_all r xs (without_lists k)
+awakened-bare r [] k = refl
+awakened-bare r (x ∷ xs) k = awakened-bare r xs (awakened r x k)
+
+pub concluded-bare : (d : Decision) (r : Request) (x : ℕ) (xs : List ℕ) (k : Kernel) → without_lists (concluded d r x xs k) ≡ concluded d r x xs (without_lists k)
+concluded-bare (Done a) r x xs k = refl
+concluded-bare Block r x xs k = refl
+concluded-bare (Wake who) r x xs k = awakened-bare r xs (own_change r (Wake who) k)
 
 -- a task that is woken waits for nothing, and all others wait on
 pub single-awakened : (r : Request) (x : ℕ) (k : Kernel) → ((y : ℕ) → y < 64 → IsSingle (task_at k y).waiting) → (y : ℕ) → y < 64 → IsSingle (task_at (awakened r x k) y).waiting

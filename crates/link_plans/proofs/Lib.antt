@@ -5,3 +5,8 @@ pub mod WakeKeeps
 pub mod NodeLaws
 pub mod BlockFits
 pub mod NodeKeeps
+pub mod Past
+pub mod MoveFacts
+pub mod MoveSeen
+pub mod Rewaits
+pub mod MovesHold

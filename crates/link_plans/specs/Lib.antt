@@ -1,3 +1,4 @@
 pub mod Plans
+pub mod Moves
 pub mod Fits
 pub mod Laws

@@ -1,7 +1,7 @@
 // The two facts that a service owes of its plan, proved for all tasks, objects and lists. Each function does nothing: its contract
 // is the fact.
 
-ghost use Rattle.link_plans.specs.Laws.{BlockFits, BlockIsBlocks, BlockKeepsNodes, WaiterCanWake, WakesAreBlocks, WakesFit, WakesKeepNodes};
+ghost use Rattle.link_plans.specs.Laws.{BlockFits, BlockIsBlocks, BlockKeepsNodes, LinksKeepPast, WaiterCanWake, WakesAreBlocks, WakesFit, WakesKeepNodes};
 
 /// The links of tasks that are woken are the blocks of their wakes.
 pub fn wakes_are_blocks()
@@ -36,4 +36,9 @@ pub fn wakes_keep_nodes()
 /// After the links of a caller that waits, each node that waits serves its task's object.
 pub fn a_block_keeps_nodes()
     ensures { BlockKeepsNodes }
+{}
+
+/// Where nobody waits past the kernel's objects, nobody does after links that fit.
+pub fn links_keep_past()
+    ensures { LinksKeepPast }
 {}

@@ -5,10 +5,12 @@
 #![tactic(auto)]
 
 mod laws;
+mod moves;
 mod plan;
 
 pub use laws::{
-    a_block_fits, a_block_is_its_blocks, a_block_keeps_nodes, a_waiter_can_wake, wakes_are_blocks,
-    wakes_fit, wakes_keep_nodes,
+    a_block_fits, a_block_is_its_blocks, a_block_keeps_nodes, a_waiter_can_wake, links_keep_past,
+    wakes_are_blocks, wakes_fit, wakes_keep_nodes,
 };
+pub use moves::{Move, Moves, Standing};
 pub use plan::Plan;

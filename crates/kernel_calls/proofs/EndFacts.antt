@@ -1,0 +1,138 @@
+-- What the last micro-step of a whole step leaves.
+use Rattle.std.proofs.Common.{◌≡◌, ℕ, ◌<◌, ◌≤◌, ◌+◌, List, [], ◌∷◌, length, map, refl, sym, ap, ◌∙◌, subst, Bool, true, false, inl, inr, arith}
+use Rattle.std.proofs.lemmas.Bool.{true≢false}
+use Rattle.kern_base.specs.declared.outcomes.Around.{Around}
+use Rattle.kern_base.specs.Tables.{KindTable}
+use Rattle.kern_base.specs.declared.requests.Request.{Request}
+use Rattle.kern_base.specs.declared.outcomes.Decision.{Decision}
+use Rattle.kern_base.specs.declared.kinds.Kind.{Kind}
+use Rattle.kern_model.specs.State.{Kernel, Object, kind_of, list_at}
+use Rattle.kern_model.specs.Micro.{Halves, Lists, is_filled, lists_of, whole}
+use Rattle.kern_model.specs.Call.{call_of}
+use Rattle.kern_model.specs.Checks.{argument}
+use Rattle.kern_model.specs.Effect.{Effect}
+use Rattle.kern_model.specs.Services.{blocks, cost, half, effect, program_serves}
+use Rattle.kern_model.specs.Valid.{IsLinked}
+use Rattle.kern_model.proofs.Lemmas.{AllWait-pend, linked-effect}
+use Rattle.kern_model.proofs.Halves.Services.{half-effect}
+use Rattle.kern_laws.proofs.ObjectKinds.Calls.{kinds-effect}
+use Rattle.std.proofs.lemmas.List.{length-map}
+use Rattle.micro_steps.specs.Halfway.{seen, seen_lists}
+use Rattle.micro_steps.specs.Whole.{IsPaused, StepsRecord}
+use Rattle.link_plans.specs.Plans.{links_left}
+use Rattle.link_plans.specs.declared.plan.Plan.{Plan}
+use Rattle.kernel_records.specs.RecordsRecord.{RecordsRecord, with_lists, without_lists}
+use Rattle.kernel_records.specs.Concluding.{concluded, outcome_of, woken_of}
+use Rattle.kernel_records.specs.Served.{IsServed}
+use Rattle.kernel_records.proofs.ConcludingFacts.{concluded-bare, has-outcome, is-concluded}
+use Rattle.kernel_calls.specs.Works.{WorkRecord, effect_of}
+use Rattle.kernel_calls.specs.Stepping.{AreNodes, HasPrios, IsInHand, IsPlanned, IsResting, prios_over}
+use Rattle.kernel_calls.specs.KernelView.{IsSound, state_with}
+use Rattle.kernel_calls.proofs.ServedFacts.{served-decided}
+use Rattle.kernel_calls.proofs.StepFacts.{cost-below, may-call, none-left}
+
+-- the kernel of records and lists that are those of another
+made-of : (rs e : Kernel) (l : Lists) → without_lists rs ≡ without_lists e → seen_lists (length e.objects) l ≡ lists_of e → state_with rs l ≡ e
+made-of rs e l a b =
+    let objects : length rs.objects ≡ length e.objects = ap (λ (k : Kernel). length k.objects) a in
+    ap (λ (k : Kernel). with_lists k (seen_lists (length rs.objects) l)) a
+    ∙ ap (λ n. with_lists e (seen_lists n l)) objects
+    ∙ ap (λ m. with_lists e m) b
+
+-- both directions and the set are those of one direction
+whole-of : (h : Halves) (l : Lists) (n : ℕ) → h.forward.ready ≡ h.back.ready → h.forward.pend ≡ h.back.pend → seen n h ≡ whole l → h ≡ whole h.forward
+whole-of h l n r p e =
+    let ready : h.forward.ready ≡ l.ready = ap (λ (j : Halves). j.forward.ready) e in
+    let marked : h.marked ≡ map is_filled h.forward.ready = ap (λ (j : Halves). j.marked) e ∙ ap (map is_filled) (sym ready) in
+    let back : h.back ≡ h.forward = ap (λ rs. record { ready = rs; pend = h.back.pend }) (sym r) ∙ ap (λ ps. record { ready = h.forward.ready; pend = ps }) (sym p) in
+    ap (λ b. record { forward = h.forward; back = b; marked = h.marked }) back
+    ∙ ap (λ m. record { forward = h.forward; back = h.forward; marked = m }) marked
+
+module _ (w : WorkRecord) (q : Plan) (around : Around) (rs : Kernel) (start : Lists) (s0 s : StepsRecord) where
+  abbrev before : Kernel
+  before = state_with rs start
+
+  abbrev made : Effect
+  made = effect_of w before
+
+  module _ (v : IsLinked before) (sv : IsServed before) (h : IsInHand w q around before s0) (none : links_left before.tasks q ≡ []) (p : IsPaused (blocks made before) (lists_of before) (w.done + 1) [] h.end s) where
+    pub is-last : w.done + 1 ≡ cost made before
+    is-last =
+        let most = cost-below made before (w.done + 1) (none-left (blocks made before) (lists_of before) (w.done + 1) h.end s p) in
+        let open_yet = h.open_yet in
+        omega arith
+
+    pub linked-made : IsLinked made.kernel
+    linked-made = linked-effect program_serves (call_of w.request w.caller w.interrupted w.compared) before v (may-call w before h.may)
+
+    pub served-made : IsServed made.kernel
+    served-made =
+        subst (λ (e : Effect). IsServed e.kernel) (sym h.planned.effect)
+        (served-decided q.decision w.request w.caller w.compared (list_at before.pend (argument w.request 0)) before h.planned.served (AllWait-pend before v (argument w.request 0)) sv)
+
+    lists-made : seen (length before.pend) s.halves ≡ whole (lists_of made.kernel)
+    lists-made =
+        p.chains ∙ ap (λ i. half made before i) is-last
+        ∙ half-effect program_serves (call_of w.request w.caller w.interrupted w.compared) before
+
+    forward-made : seen_lists (length before.pend) s.halves.forward ≡ lists_of made.kernel
+    forward-made = ap (λ (j : Halves). j.forward) lists-made
+
+    objects-made : length before.pend ≡ length made.kernel.objects
+    objects-made =
+        let kind : Object → Kind = λ b. kind_of b.content in
+        let same = ap (λ (t : KindTable). length t.objects) (kinds-effect program_serves (call_of w.request w.caller w.interrupted w.compared) before) in
+        v.sizes.pend ∙ sym (length-map before.objects kind) ∙ sym same ∙ length-map made.kernel.objects kind
+
+    pub halves-made : s.halves ≡ whole s.halves.forward
+    halves-made = whole-of s.halves (lists_of made.kernel) (length before.pend) p.even.ready p.even.pend lists-made
+
+    pub nodes-made : AreNodes made.kernel s.halves.forward
+    nodes-made = subst (λ l. AreNodes made.kernel l) (sym p.ends) h.nodes
+
+    pub prios-made : s.prios ≡ s0.prios → HasPrios made.kernel s.prios
+    prios-made e = subst (HasPrios made.kernel) (sym e) (subst (λ ks. HasPrios made.kernel (prios_over ks s0.prios)) none h.prios)
+
+    pub records-made : concluded q.decision w.request w.caller (woken_of q.decision (list_at before.pend (argument w.request 0))) (without_lists rs) ≡ without_lists made.kernel
+    records-made =
+        sym (is-concluded q.decision w.request w.caller w.compared (list_at before.pend (argument w.request 0)) before h.planned.served)
+        ∙ ap (λ (e : Effect). without_lists e.kernel) (sym h.planned.effect)
+
+    -- what the records and the chains then are
+    pub state-made : (rs' : Kernel) → rs' ≡ concluded q.decision w.request w.caller (woken_of q.decision (list_at before.pend (argument w.request 0))) rs → state_with rs' s.halves.forward ≡ made.kernel
+    state-made rs' e =
+        made-of rs' made.kernel s.halves.forward
+        (ap without_lists e ∙ concluded-bare q.decision w.request w.caller (woken_of q.decision (list_at before.pend (argument w.request 0))) rs ∙ records-made)
+        (ap (λ n. seen_lists n s.halves.forward) (sym objects-made) ∙ forward-made)
+
+    pub outcome-made : outcome_of q.decision w.request.service (length (woken_of q.decision (list_at before.pend (argument w.request 0)))) ≡ made.outcome
+    outcome-made =
+        sym (has-outcome q.decision w.request w.caller w.compared (list_at before.pend (argument w.request 0)) _ h.planned.served)
+        ∙ ap (λ (e : Effect). e.outcome) (sym h.planned.effect)
+
+-- the same decision is concluded
+pub same-concluded : (d e : Decision) (r u : Request) (x y : ℕ) (xs ys : List ℕ) (k : Kernel) → d ≡ e → r ≡ u → x ≡ y → xs ≡ ys → concluded d r x xs k ≡ concluded e u y ys k
+same-concluded d e r u x y xs ys k a b c f =
+    ap (λ i. concluded i r x xs k) a ∙ ap (λ i. concluded e i x xs k) b ∙ ap (λ i. concluded e u i xs k) c ∙ ap (λ i. concluded e u y i k) f
+
+pub same-outcome : (d e : Decision) (r u : Request) (xs ys : List ℕ) → d ≡ e → r ≡ u → xs ≡ ys → outcome_of d r.service (length xs) ≡ outcome_of e u.service (length ys)
+same-outcome d e r u xs ys a b f =
+    ap (λ i. outcome_of i r.service (length xs)) a ∙ ap (λ (i : Request). outcome_of e i.service (length xs)) b ∙ ap (λ i. outcome_of e u.service (length i)) f
+
+-- what is sound at the last micro-step stays so once what was decided is made
+pub sound-end : (w v : WorkRecord) (q p : Plan) (around : Around) (r n : RecordsRecord) (s0 s t : StepsRecord) (i : IsSound r s0 q around w true)
+    → links_left (state_with r.state s0.start).tasks q ≡ [] → IsPaused (blocks (effect_of w (state_with r.state s0.start)) (state_with r.state s0.start)) (lists_of (state_with r.state s0.start)) (w.done + 1) [] i.hand.end s
+    → s.prios ≡ s0.prios → t.halves ≡ s.halves → t.prios ≡ s.prios → t.start ≡ s.halves.forward
+    → n.state ≡ concluded q.decision w.request w.caller (woken_of q.decision (list_at (state_with r.state s0.start).pend (argument w.request 0))) r.state → IsSound n t p around v false
+sound-end w v q p around r n s0 s t i none paused prios halves kept start records =
+    let made = (effect_of w (state_with r.state s0.start)).kernel in
+    let is : state_with n.state t.start ≡ made = ap (λ l. state_with n.state l) start ∙ state-made w q around r.state s0.start s0 s i.valid i.served i.hand none paused n.state records in
+    let nodes : AreNodes made t.start = subst (AreNodes made) (sym start) (nodes-made w q around r.state s0.start s0 s i.valid i.served i.hand none paused) in
+    let listed : HasPrios made t.prios = subst (HasPrios made) (sym kept) (prios-made w q around r.state s0.start s0 s i.valid i.served i.hand none paused prios) in
+    let whole_t : t.halves ≡ whole t.start = halves ∙ halves-made w q around r.state s0.start s0 s i.valid i.served i.hand none paused ∙ ap whole (sym start) in
+    record {
+      valid = subst IsLinked (sym is) (linked-made w q around r.state s0.start s0 s i.valid i.served i.hand none paused);
+      served = subst IsServed (sym is) (served-made w q around r.state s0.start s0 s i.valid i.served i.hand none paused);
+      nodes = subst (λ k. AreNodes k t.start) (sym is) nodes;
+      hand = subst (λ k. IsResting k t) (sym is) (record { halves = whole_t; prios = listed });
+    }
