@@ -20,6 +20,7 @@ use Rattle.kernel_records.specs.TaskChanges.{cleared_task, stopped_task}
 use Rattle.kernel_calls.specs.KernelView.{IsSound, hand_of, state_with}
 use Rattle.kernel_calls.specs.Stepping.{AreNodes, HasPrios, IsHand, IsResting}
 use Rattle.kernel_calls.specs.Works.{WorkRecord}
+use Rattle.kernel_calls.proofs.ServedFacts.{served-task}
 
 -- nothing is in hand
 pub resting : (busy : Bool) (w : WorkRecord) (q : Plan) (seen : Around) (k : Kernel) (s : StepsRecord) → hand_of busy w ≡ None → IsHand busy w q seen k s → IsResting k s
@@ -29,28 +30,6 @@ resting false w q seen k s free hand = hand
 pub rests : (busy : Bool) (w : WorkRecord) (q : Plan) (seen : Around) (k : Kernel) (s : StepsRecord) → hand_of busy w ≡ None → IsResting k s → IsHand busy w q seen k s
 rests true w q seen k s free rest = cc
 rests false w q seen k s free rest = rest
-
--- semaphores alone are served, also after one task changed
-served-task : (k j : Kernel) (x : ℕ) (f : Task → Task) → x < length k.tasks → j.tasks ≡ update_task k.tasks x f → ((t : Task) → IsServedWait t.waiting → IsServedWait (f t).waiting) → ((t : Task) → IsServedResult t.answered → IsServedResult (f t).answered) → IsServed k → IsServed j
-served-task k j x f inside e wait result s =
-    record {
-      waits = λ y h. subst (λ ts. IsServedWait (get_or ts y no_task).waiting) (sym e) (waits_at y h);
-      reads = λ y. subst (λ ts. IsServedResult (get_or ts y no_task).answered) (sym e) (reads_at y);
-    }
-  where
-    waits_at : (y : ℕ) → y < 60 → IsServedWait (get_or (update_task k.tasks x f) y no_task).waiting
-    waits_at y h =
-        elim (eqb_tells x y) [
-          | inl d ↦ subst (λ z. z < 60 → IsServedWait (get_or (update_task k.tasks x f) z no_task).waiting) d.1 (λ g. subst (λ (t : Task). IsServedWait t.waiting) (sym (task-updated k.tasks x f inside)) (wait (task_at k x) (s.waits x g))) h
-          | inr d ↦ subst (λ (t : Task). IsServedWait t.waiting) (sym (task-other k.tasks x f y d.1)) (s.waits y h)
-        ]
-
-    reads_at : (y : ℕ) → IsServedResult (get_or (update_task k.tasks x f) y no_task).answered
-    reads_at y =
-        elim (eqb_tells x y) [
-          | inl d ↦ subst (λ z. IsServedResult (get_or (update_task k.tasks x f) z no_task).answered) d.1 (subst (λ (t : Task). IsServedResult t.answered) (sym (task-updated k.tasks x f inside)) (result (task_at k x) (s.reads x)))
-          | inr d ↦ subst (λ (t : Task). IsServedResult t.answered) (sym (task-other k.tasks x f y d.1)) (s.reads y)
-        ]
 
 -- its nodes stay those of its objects
 noded-task : (f : Task → Task) → ((t : Task) → (f t).objects ≡ t.objects) → (ts : List Task) (x : ℕ) (pend : List (List ℕ)) → IsNoded ts pend → IsNoded (update_task ts x f) pend
@@ -90,7 +69,7 @@ module _ (r t : RecordsRecord) (s : StepsRecord) (q : Plan) (seen : Around) (w :
       let rest = resting busy w q seen k s free sound.hand in
       record {
         valid = finished-linked;
-        served = served-task k j x cleared_task (omega (arith, sound.valid.sizes.tasks, inside)) tasks (λ u h. h) (λ u h. tt) sound.served;
+        served = served-task k j x cleared_task tasks (λ l. sound.served.waits x l) tt sound.served;
         nodes = subst (λ i. AreNodes i s.start) (sym finished-state) (record { noded = noded-task cleared_task (λ u. refl) k.tasks x s.start.pend sound.nodes.noded; past = sound.nodes.past });
         hand = rests busy w q seen j s free (record { halves = rest.halves; prios = prios-task cleared_task (λ u. refl) k j x s.prios tasks rest.prios });
       }
@@ -121,7 +100,7 @@ module _ (r t : RecordsRecord) (s m : StepsRecord) (q : Plan) (seen : Around) (w
       let whole_now : m.halves ≡ whole m.start = halves ∙ ap whole (sym (start ∙ ap (λ (h : Halves). h.forward) halves)) in
       record {
         valid = stopped-linked;
-        served = served-task k j x stopped_task (omega (arith, sound.valid.sizes.tasks, inside)) tasks (λ u h. h) (λ u h. h) sound.served;
+        served = served-task k j x stopped_task tasks (λ l. sound.served.waits x l) (sound.served.reads x) sound.served;
         nodes = subst (λ i. AreNodes i m.start) (sym stopped-state) nodes;
         hand = rests busy w q seen j m free (record { halves = whole_now; prios = subst (HasPrios j) (sym prios) (prios-task stopped_task (λ u. refl) k j x s.prios tasks rest.prios) });
       }
