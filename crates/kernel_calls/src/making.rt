@@ -17,6 +17,7 @@ pub(crate) fn make<L: Links>(steps: &mut Steps<L>, link: Link)
     ensures start { steps.new.start ≡ steps.new.halves.forward }
     ensures prios { steps.new.prios ≡ prios_after link steps.old.prios }
 {
+    steps.chains().consistent();
     steps.take(link);
     while !steps.step() {}
     steps.close();

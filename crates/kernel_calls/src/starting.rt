@@ -1,6 +1,7 @@
 // The kernel at the start.
 
 ghost use Rattle.std.specs.Prelude.{◌≡◌, ◌<◌, ◌≤◌, ◌++◌, [], ◌∷◌, All, IfOk, length, replicate};
+ghost use Rattle.app_image.specs.Layout.{HasWords};
 ghost use Rattle.kern_model.specs.Micro.{whole};
 ghost use Rattle.kern_model.specs.Start.{ready_from};
 ghost use Rattle.kern_model.specs.Valid.{IsLinked};
@@ -29,9 +30,10 @@ impl<L: Links> Kernel<L> {
         ensures start { IfOk result (λ k. k ≡ start_of image.now) }
         ensures valid { IfOk result (λ k. IsLinked k.state) }
     {
+        are_words(image);
+        let tasks = image.tasks();
         let records = Records::new(alloc, image)?;
         let mut steps = Steps::new(ready, pend, &prios_of(&records));
-        let tasks = image.tasks();
         join_ready(&mut steps, tasks);
         make(&mut steps, Link::Ready(TaskId(62), Prio(63), true));
         Ok(Kernel {
@@ -50,8 +52,16 @@ impl<L: Links> Kernel<L> {
     }
 }
 
+// The numbers that an image declares are words, by their type: a law, to be called where the start is to be valid.
+fn are_words(image: &Image)
+    ensures { HasWords image.now }
+{
+    let _ = image.code();
+}
+
 // The present priorities of all tasks.
 fn prios_of(records: &Records) -> [Prio; 64]
+    requires { length records.now.state.tasks ≡ 64 }
     ensures { HasPrios records.now.state result }
 {
     let mut prios = [Prio(63); 64];
@@ -66,11 +76,15 @@ fn join_ready<L: Links>(steps: &mut Steps<L>, tasks: &[TaskDef])
     requires few { length tasks.now ≤ 60 }
     requires small { All (λ d. d.prio < 63) tasks.now }
     requires empty { steps.old.halves ≡ whole no_lists }
+    requires found { steps.old.start ≡ no_lists }
     ensures halves { steps.new.halves ≡ whole (record { ready = ready_from tasks.now 0 63 ++ [] ∷ []; pend = replicate 64 [] }) }
     ensures start { steps.new.start ≡ steps.new.halves.forward }
     ensures prios { steps.new.prios ≡ steps.old.prios }
 {
     for (index, def) in tasks.iter().enumerate() {
-        make(steps, Link::Ready(TaskId(index as u8), Prio(def.prio as u8), true));
+        make(
+            steps,
+            Link::Ready(TaskId(index as u8), Prio(def.prio as u8), true),
+        );
     }
 }

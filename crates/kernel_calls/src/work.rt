@@ -48,7 +48,13 @@ impl Work {
     }
 
     // A work at its beginning, in place of another.
-    pub(crate) fn begin(&mut self, caller: TaskId, request: &Request, interrupted: Prio, compared: Prio)
+    pub(crate) fn begin(
+        &mut self,
+        caller: TaskId,
+        request: &Request,
+        interrupted: Prio,
+        compared: Prio,
+    )
         ensures { self.new ≡ begun caller.0 request.now interrupted.0 compared.0 }
     {
         self.caller = caller;
