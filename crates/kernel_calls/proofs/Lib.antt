@@ -10,3 +10,5 @@ pub mod WakeCase
 pub mod BlockCase
 pub mod BeginFacts
 pub mod PlanningFacts
+pub mod PostFacts
+pub mod PostingFacts

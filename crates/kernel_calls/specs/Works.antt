@@ -1,6 +1,8 @@
 -- A whole step in hand: one call of a service or one take of a post, one micro-step at a time.
-use Rattle.std.specs.Prelude.{ℕ, ◌≡◌, ◌⊎◌, ◌+◌}
+use Rattle.std.specs.Prelude.{ℕ, ◌≡◌, ◌⊎◌, ◌+◌, None}
 use Rattle.kern_base.specs.Checks.{IsPost}
+use Rattle.kern_base.specs.declared.outcomes.Outcome.{Outcome}
+use Rattle.kern_base.specs.declared.outcomes.Outcome.TheVariants.{Answered}
 use Rattle.kern_base.specs.declared.requests.Request.{Request}
 use Rattle.kern_model.specs.Call.{call_of}
 use Rattle.kern_model.specs.State.{Kernel}
@@ -32,3 +34,8 @@ begun x r c h = record { caller = x; request = r; interrupted = c; compared = h;
 -- one micro-step later
 abbrev pub stepped : WorkRecord → WorkRecord
 stepped w = record w { done = w.done + 1 }
+
+-- an answer without a table
+abbrev pub IsPlainAnswer : Outcome → Type 0
+IsPlainAnswer (Answered a taken) = taken ≡ None
+IsPlainAnswer outcome = ⊥

@@ -7,7 +7,7 @@ ghost use Rattle.decisions.specs.Around.{IsAround};
 ghost use Rattle.kern_model.specs.Services.{cost, posted, post_request, program_serves};
 ghost use Rattle.kern_model.specs.Valid.{IsLinked};
 ghost use Rattle.kernel_calls.specs.KernelRecord.{ended, with_state, IsOpen};
-ghost use Rattle.kernel_calls.specs.Works.{MayBegin, begun, effect_of, stepped, WorkRecord};
+ghost use Rattle.kernel_calls.specs.Works.{IsPlainAnswer, MayBegin, begun, effect_of, stepped, WorkRecord};
 
 use crate::kernels::Kernel;
 use crate::planning::{first_waiter, plan_call};
@@ -36,6 +36,17 @@ fn request_of(post: Post) -> Request
         ids: [0; 8],
         n_ids: 0,
         table: false,
+    }
+}
+
+// The answer of a post.
+fn answer_of(outcome: Outcome) -> Answer
+    requires { IsPlainAnswer outcome }
+    ensures { outcome ≡ Answered result None }
+{
+    match outcome {
+        Outcome::Answered(answer, _) => answer,
+        _ => unreachable!(),
     }
 }
 
@@ -134,8 +145,7 @@ impl<L: Links> Kernel<L> {
         loop {
             match self.advance() {
                 Progress::More => {}
-                Progress::Done(Outcome::Answered(answer, _)) => return answer,
-                Progress::Done(_) => unreachable!(),
+                Progress::Done(outcome) => return answer_of(outcome),
             }
         }
     }

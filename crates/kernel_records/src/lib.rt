@@ -12,4 +12,3 @@ mod starting;
 
 pub use laws::{a_decision_has_its_outcome, a_decision_is_concluded};
 pub use records::Records;
-
