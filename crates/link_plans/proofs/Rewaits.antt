@@ -25,17 +25,13 @@ use Rattle.micro_steps.specs.Halfway.{tasks_in, seen_lists}
 use Rattle.micro_steps.specs.Whole.{AreFit, lists_after, prios_after, task_blocks}
 use Rattle.micro_steps.proofs.Seen.{list_at-tasks, list_at-take}
 use Rattle.link_plans.specs.Moves.{rewait_links}
+use Rattle.link_plans.specs.Renewals.{prios_past}
 use Rattle.link_plans.specs.Fits.{IsNoded}
 use Rattle.link_plans.proofs.BlockFits.{waited}
 use Rattle.link_plans.proofs.WakeFits.{counted}
 use Rattle.link_plans.proofs.NodeLaws.{count-append, place_after, times-count, total-none, object_below}
 use Rattle.link_plans.proofs.NodeKeeps.{times-left-le, times-inserted-le}
 use Rattle.link_plans.proofs.MoveSeen.{seen-left, seen-inserted, place-nodes, place-same}
-
--- the priorities after links
-abbrev pub prios_all : List Prio → List Link → List Prio
-prios_all prios [] = prios
-prios_all prios (k ∷ ks) = prios_all (prios_after k prios) ks
 
 -- only one object stands at a place
 both : (b c : Bool) (m n : ℕ) → (if b then 0 else 1 + m) ≡ (if c then 0 else 1 + n) → ((b ≡ true) × (c ≡ true)) ⊎ ((b ≡ false) × (c ≡ false) × (m ≡ n))
@@ -257,9 +253,9 @@ module _ (n : ℕ) (ts : List Task) (x p : ℕ) (prio : ℕ → ℕ) (most : n �
     pub blocks : in_order (task_blocks prios (rewait_links x p i os)) t ≡ in_order (rewait_blocks prio x p os) t
     pub seen : seen_lists n (lists_after prios (rewait_links x p i os) l) ≡ lists_rewaited os t
     pub noded : IsNoded ts (lists_after prios (rewait_links x p i os) l).pend
-    pub others : (y : ℕ) → (y ≡ x → ⊥) → prio_in (prios_all prios (rewait_links x p i os)) y ≡ prio_in prios y
-    pub mine : (prio_in prios x ≡ p) ⊎ (0 < length os) → prio_in (prios_all prios (rewait_links x p i os)) x ≡ p
-    pub long : length (prios_all prios (rewait_links x p i os)) ≡ length prios
+    pub others : (y : ℕ) → (y ≡ x → ⊥) → prio_in (prios_past prios (rewait_links x p i os)) y ≡ prio_in prios y
+    pub mine : (prio_in prios x ≡ p) ⊎ (0 < length os) → prio_in (prios_past prios (rewait_links x p i os)) x ≡ p
+    pub long : length (prios_past prios (rewait_links x p i os)) ≡ length prios
 
   pub rewaits : (prios : List Prio) (i : ℕ) (front os : List ℕ) (l t : Lists) → front ++ os ≡ all → length front ≡ i → Stands prios os l t → Rewaited prios i os l t
   rewaits prios i front [] l t parts at s =

@@ -2,3 +2,4 @@ pub mod Plans
 pub mod Moves
 pub mod Fits
 pub mod Laws
+pub mod Renewals
