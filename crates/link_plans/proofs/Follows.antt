@@ -1,12 +1,11 @@
 -- Links lead from the kernel's lists to those that their blocks lead to; so a renewal can follow them.
-use Rattle.std.proofs.Common.{◌≡◌, ◌≢◌, ℕ, zero, suc, ◌+◌, ◌*◌, ◌/◌, ◌<◌, ◌≤◌, Bool, true, false, List, [], ◌∷◌, ◌++◌, length, map, take, insert, refl, sym, ap, ◌∙◌, subst, arith, inl, inr, length-set, append_assoc, get_or-set_same, get_or-set_other}
+use Rattle.std.proofs.Common.{◌≡◌, ℕ, zero, suc, ◌+◌, ◌*◌, ◌/◌, ◌<◌, ◌≤◌, Bool, true, false, List, [], ◌∷◌, ◌++◌, length, map, take, insert, refl, sym, ap, ◌∙◌, subst, arith, inl, inr, length-set, append_assoc, get_or-set_same, get_or-set_other}
 use Rattle.std.specs.Prelude.{slice_set, if◌then◌else◌}
-use Rattle.std.proofs.Math.Nat.{not-suc-le-zero}
 use Rattle.std.proofs.lemmas.Bool.Decides.{eqb_tells, leb_tells}
 use Rattle.std.proofs.lemmas.List.{length-map, length-take}
 use Rattle.kern_base.specs.declared.numbers.Prio.{Prio}
-use Rattle.kern_model.specs.State.{Kernel, Task, task_at, count_of, waits_for_nothing}
-use Rattle.kern_model.specs.Micro.{Block, Halves, Lists, Micro, after, changed_all, in_order, lists_of, plain, wait, wait_place, whole}
+use Rattle.kern_model.specs.State.{Kernel, Task, task_at, task_in, count_of, waits_for_nothing}
+use Rattle.kern_model.specs.Micro.{Block, Halves, Lists, Micro, after, changed_all, in_order, lists_of, plain, wait_place, whole}
 use Rattle.kern_model.specs.Inherit.{renew_blocks}
 use Rattle.kern_model.specs.Valid.{IsLinked}
 use Rattle.kern_model.proofs.Lists.Members.{list-same}
@@ -16,13 +15,14 @@ use Rattle.pend_lists.specs.Pending.{waiters}
 use Rattle.pend_lists.proofs.Tasks.{inserted_once, left_once, one_node}
 use Rattle.micro_steps.specs.declared.link.Link.{Link}
 use Rattle.micro_steps.specs.declared.link.Link.TheVariants as link
-use Rattle.micro_steps.specs.Blocks.{block_of, place_at, prio_by, prio_in}
+use Rattle.micro_steps.specs.Blocks.{block_of, no_prio, place_at, prio_by, prio_in}
 use Rattle.micro_steps.specs.Halfway.{seen_lists, tasks_in}
 use Rattle.micro_steps.specs.Whole.{AreFit, FitsLink, lists_after, prios_after, task_block, task_blocks}
 use Rattle.micro_steps.proofs.Halves.{same_forward}
 use Rattle.micro_steps.proofs.Seen.{list_at-tasks, list_at-take}
+use Rattle.link_plans.specs.Plans.{block_links, leave_links, ready_links, wait_links, wakes_links}
 use Rattle.link_plans.specs.Fits.{AreKernels}
-use Rattle.link_plans.specs.Renewals.{IsRenewalAfter, MayRenew, MayRenewAfter, prios_past, renewal_links, with_renewal}
+use Rattle.link_plans.specs.Renewals.{IsRenewalAfter, MayRenew, MayRenewAfter, prios_past, renewal_links}
 use Rattle.link_plans.proofs.BlockFits.{waited}
 use Rattle.link_plans.proofs.NodeLaws.{times-count}
 use Rattle.link_plans.proofs.MoveSeen.{place-nodes, seen-inserted, seen-left}
@@ -165,3 +165,43 @@ renewals_follow ts prios tail links bs k j l h =
           ∙ ap (λ cs. in_order cs (lists_of k)) (sym (append_assoc bs rs (plain ∷ [])));
       lists = subst (AreKernels _) (sym (lists-append prios links (ks ++ end) l ∙ lists-append now ks end next)) r.lists;
     }
+
+pub links_lead_on : (prios : List Prio) (ks : List Link) (k : Kernel) (l : Lists) → IsLinked k → AreKernels k l → AreFit (length k.objects) prios ks l → seen_lists (length k.objects) (lists_after prios ks l) ≡ after (in_order (task_blocks prios ks) (lists_of k)) (lists_of k)
+links_lead_on prios ks k l v same fit =
+    links_lead (length k.objects) prios ks l fit (single k l v same) ∙ ap (λ a. after (in_order (task_blocks prios ks) a) a) same.lists
+
+-- The priorities after the links of a call.
+
+leaves_keep : (prios : List Prio) (x i : ℕ) (os : List ℕ) (ks : List Link) → prios_past prios (leave_links x i os ++ ks) ≡ prios_past prios ks
+leaves_keep prios x i [] ks = refl
+leaves_keep prios x i (o ∷ os) ks = leaves_keep prios x (i + 1) os ks
+
+ready_keep : (prios : List Prio) (s x p h : ℕ) (ks : List Link) → prios_past prios (ready_links s x p h ++ ks) ≡ prios_past prios ks
+ready_keep prios zero x p h ks = refl
+ready_keep prios (suc s) x p h ks = refl
+
+pub wakes_keep_prios : (prios : List Prio) (ts : List Task) (h : ℕ) (xs : List ℕ) → prios_past prios (wakes_links ts h xs) ≡ prios
+wakes_keep_prios prios ts h [] = refl
+wakes_keep_prios prios ts h (x ∷ xs) =
+    let t = task_in ts x in
+    leaves_keep prios x 0 t.objects (ready_links t.suspended x t.prio h ++ wakes_links ts h xs)
+    ∙ ready_keep prios t.suspended x t.prio h (wakes_links ts h xs)
+    ∙ wakes_keep_prios prios ts h xs
+
+waits_keep_prios : (prios : List Prio) (x p i : ℕ) (os : List ℕ) → x < length prios → i + length os ≤ 8 → prio_in prios x ≡ p → (y : ℕ) → prio_in (prios_past prios (wait_links x p i os)) y ≡ prio_in prios y
+waits_keep_prios prios x p i [] inside few is y = refl
+waits_keep_prios prios x p i (o ∷ os) inside few is y =
+    let node = 8 * x + i in
+    let own : node / 8 ≡ x = omega (arith, few) in
+    let q : Prio = record { 0 = p } in
+    let now = slice_set prios (node / 8) q in
+    let long = length-set prios (node / 8) q in
+    let mine : prio_in now x ≡ p = ap (prio_in now) (sym own) ∙ ap (λ (r : Prio). r.0) (get_or-set_same prios (node / 8) q no_prio (omega (arith, own, inside))) in
+    waits_keep_prios now x p (i + 1) os (omega (arith, long, inside)) (omega (arith, few)) mine y
+    ∙ elim (eqb_tells y x) [
+      | inl e ↦ ap (prio_in now) e.1 ∙ mine ∙ sym is ∙ ap (prio_in prios) (sym e.1)
+      | inr e ↦ ap (λ (r : Prio). r.0) (get_or-set_other prios (node / 8) y q no_prio (λ d. e.1 (d ∙ own)))
+    ]
+
+pub block_keeps_prios : (prios : List Prio) (ts : List Task) (x : ℕ) (os : List ℕ) → x < length prios → length os ≤ 8 → prio_in prios x ≡ (task_in ts x).prio → (y : ℕ) → prio_in (prios_past prios (block_links ts x os)) y ≡ prio_in prios y
+block_keeps_prios prios ts x os inside few is y = waits_keep_prios prios x (task_in ts x).prio 0 os inside (omega (arith, few)) is y

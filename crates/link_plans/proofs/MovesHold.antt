@@ -1,13 +1,13 @@
 -- The links of moves fit, are the blocks of their definition, and end with the lists of the kernel after the moves.
-use Rattle.std.proofs.Common.{◌≡◌, ◌≢◌, ◌⊎◌, ℕ, zero, suc, ◌+◌, ◌*◌, ◌/◌, ◌<◌, ◌≤◌, Bool, true, false, List, [], ◌∷◌, ◌++◌, length, map, take, refl, sym, ap, ◌∙◌, subst, arith, inl, inr, length-set, get_or-set_other}
-use Rattle.std.specs.Prelude.{All, ◌==◌, ◌&&◌, if◌then◌else◌}
+use Rattle.std.proofs.Common.{◌≡◌, ◌≢◌, ℕ, ◌+◌, ◌*◌, ◌/◌, ◌<◌, ◌≤◌, Bool, true, false, List, [], ◌∷◌, ◌++◌, length, map, take, refl, sym, ap, ◌∙◌, subst, arith, inl, inr, get_or-set_other}
+use Rattle.std.specs.Prelude.{◌==◌, ◌&&◌, if◌then◌else◌}
 use Rattle.std.proofs.Math.Nat.{not-suc-le-zero}
 use Rattle.std.proofs.lemmas.Bool.{true≢false}
 use Rattle.std.proofs.lemmas.Bool.Decides.{eqb_tells}
 use Rattle.kern_base.specs.declared.numbers.Prio.{Prio}
 use Rattle.kern_model.specs.State.{Kernel, Task, task_at, task_in, prio_of, place_of, count_of, is_ready, is_zero, waits_for_nothing}
 use Rattle.kern_model.specs.Micro.{Block, Halves, Lists, after, in_order, lists_of}
-use Rattle.kern_model.specs.Inherit.{moved, moved_all, moved_ready, rewaited, ready_move_blocks, rewait_blocks, move_blocks, moves_blocks, waited_objects, with_prio}
+use Rattle.kern_model.specs.Inherit.{moved, moved_all, moved_ready, rewaited, ready_move_blocks, rewait_blocks, move_blocks, moves_blocks, with_prio}
 use Rattle.kern_model.specs.Valid.{IsLinked, one_if}
 use Rattle.kern_model.proofs.Basics.Updates.{update_task_same, task-updated, task-other}
 use Rattle.kern_model.proofs.Lists.Members.{list-same}
@@ -19,14 +19,13 @@ use Rattle.kern_model.proofs.Linked.Wakes.{self_equal}
 use Rattle.links.specs.Chain.{times, total, list_at, left, without}
 use Rattle.links.proofs.Steps.{times-without}
 use Rattle.micro_steps.specs.declared.link.Link.{Link}
-use Rattle.micro_steps.specs.declared.link.Link.TheVariants as link
 use Rattle.micro_steps.specs.Blocks.{prio_in, place_at}
 use Rattle.micro_steps.specs.Halfway.{tasks_in, seen_lists}
 use Rattle.micro_steps.specs.Whole.{AreFit, lists_after, prios_after, task_block, task_blocks}
 use Rattle.micro_steps.proofs.Seen.{list_at-tasks, list_at-take}
 use Rattle.link_plans.specs.declared.moves.Move.{Move}
 use Rattle.link_plans.specs.declared.moves.Standing.TheVariants.{Ready, Waits, Nowhere}
-use Rattle.link_plans.specs.Moves.{standing_links, standing_of, move_links, moves_links, move_in, rewait_links}
+use Rattle.link_plans.specs.Moves.{standing_links, standing_of, move_links, moves_links, move_in}
 use Rattle.link_plans.specs.Renewals.{TellWaiters, prios_past}
 use Rattle.link_plans.specs.Fits.{AreKernels, IsNoded}
 use Rattle.link_plans.proofs.BlockFits.{no_wait}
@@ -90,10 +89,10 @@ module _ (tail : Bool) (x p : ℕ) (k : Kernel) (l : Lists) (prios : List Prio) 
   left_ready : is_ready t ≡ true → total x (left l.ready t.prio x) ≡ 0
   left_ready b =
       total-none x (left l.ready t.prio x) (λ r.
-          elim (eqb_tells t.prio r) [
-            | inl e ↦ subst (λ q. times x (list_at (left l.ready t.prio x) q) ≡ 0) e.1 (ap (times x) (list-same (without x) refl l.ready t.prio) ∙ times-without x (list_at l.ready t.prio))
-            | inr e ↦ ap (times x) (get_or-set_other l.ready t.prio r (without x (list_at l.ready t.prio)) [] (λ d. e.1 (sym d))) ∙ elsewhere r e.0
-          ])
+      elim (eqb_tells t.prio r) [
+        | inl e ↦ subst (λ q. times x (list_at (left l.ready t.prio x) q) ≡ 0) e.1 (ap (times x) (list-same (without x) refl l.ready t.prio) ∙ times-without x (list_at l.ready t.prio))
+        | inr e ↦ ap (times x) (get_or-set_other l.ready t.prio r (without x (list_at l.ready t.prio)) [] (λ d. e.1 (sym d))) ∙ elsewhere r e.0
+      ])
     where
       elsewhere : (r : ℕ) → (t.prio == r) ≡ false → times x (list_at l.ready r) ≡ 0
       elsewhere r e =

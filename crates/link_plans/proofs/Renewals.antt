@@ -1,20 +1,16 @@
 -- The links of a renewal, alone and after those of a call.
-use Rattle.std.proofs.Common.{◌≡◌, ◌≢◌, ℕ, zero, suc, ◌+◌, ◌*◌, ◌/◌, ◌<◌, ◌≤◌, Bool, true, false, List, [], ◌∷◌, ◌++◌, length, map, take, refl, sym, ap, ◌∙◌, subst, arith, inl, inr, length-set, append_assoc}
+use Rattle.std.proofs.Common.{◌≡◌, ℕ, zero, suc, ◌+◌, ◌<◌, ◌≤◌, Bool, true, false, List, [], ◌∷◌, refl, sym, ap, subst, arith, inl, inr}
 use Rattle.std.specs.Prelude.{◌==◌, ◌&&◌, not, if◌then◌else◌}
 use Rattle.std.proofs.Math.Nat.{not-suc-le-zero}
-use Rattle.std.proofs.lemmas.Bool.Decides.{eqb_tells, leb_tells}
+use Rattle.std.proofs.lemmas.Bool.Decides.{eqb_tells}
 use Rattle.kern_base.specs.declared.numbers.Prio.{Prio}
-use Rattle.kern_model.specs.State.{Kernel, Task, task_at, task_in, prio_of, count_of, waits_for_nothing}
-use Rattle.kern_model.specs.Micro.{Block, Halves, Lists, Micro, after, changed_all, in_order, lists_of, plain, whole}
+use Rattle.kern_model.specs.State.{Kernel, Task, task_at, prio_of, count_of}
+use Rattle.kern_model.specs.Micro.{Lists}
 use Rattle.kern_model.specs.Inherit.{inherited, moves_of, numbers, renewed_tasks}
 use Rattle.kern_model.proofs.Linked.Renewals.{movable-renewed}
-use Rattle.micro_steps.specs.declared.link.Link.{Link}
-use Rattle.micro_steps.specs.declared.link.Link.TheVariants as link
-use Rattle.micro_steps.specs.Whole.{AreFit, lists_after, prios_after, task_blocks}
-use Rattle.link_plans.specs.Renewals.{MayRenew, IsRenewal, KnowObjects}
-use Rattle.link_plans.proofs.WakeFits.{counted}
+use Rattle.link_plans.specs.Renewals.{MayRenew, IsRenewal}
 use Rattle.link_plans.proofs.NodeLaws.{count-append}
-use Rattle.link_plans.proofs.MovesHold.{MayMove, MovesHold, movers, moves_hold}
+use Rattle.link_plans.proofs.MovesHold.{MayMove, movers, moves_hold}
 
 -- a task is renewed once
 

@@ -1,12 +1,12 @@
 -- A task that waits leaves each of its objects and joins it again at another priority.
-use Rattle.std.proofs.Common.{◌≡◌, ◌≢◌, ℕ, zero, suc, ◌+◌, ◌*◌, ◌/◌, ◌<◌, ◌≤◌, Bool, true, false, ◌⊎◌, List, [], ◌∷◌, ◌++◌, length, map, take, insert, refl, sym, ap, ◌∙◌, subst, arith, inl, inr, append_assoc, length-set, get_or-set_same, get_or-set_other}
+use Rattle.std.proofs.Common.{◌≡◌, ◌≢◌, ℕ, suc, ◌+◌, ◌*◌, ◌/◌, ◌<◌, ◌≤◌, Bool, true, false, ◌⊎◌, List, [], ◌∷◌, ◌++◌, length, map, take, insert, refl, sym, ap, ◌∙◌, subst, arith, inl, inr, append_assoc, length-set, get_or-set_same, get_or-set_other}
 use Rattle.std.specs.Prelude.{slice_set, replicate, All, ◌==◌, if◌then◌else◌}
 use Rattle.std.proofs.Math.Nat.{not-suc-le-zero}
 use Rattle.std.proofs.lemmas.Bool.Decides.{eqb_tells, leb_tells}
 use Rattle.std.proofs.lemmas.List.{length-append}
 use Rattle.kern_base.specs.declared.numbers.Prio.{Prio}
 use Rattle.kern_model.specs.State.{Task, task_in, place_of, count_of, update_list}
-use Rattle.kern_model.specs.Micro.{Block, Halves, JoinBack, JoinForward, Lists, Pend, Plain, after, in_order, leave, wait, wait_place}
+use Rattle.kern_model.specs.Micro.{Halves, JoinBack, JoinForward, Lists, Pend, Plain, after, in_order, leave, wait, wait_place}
 use Rattle.kern_model.specs.Inherit.{rewait_blocks, rewaited}
 use Rattle.kern_model.proofs.Basics.Choices.{equal}
 use Rattle.kern_model.proofs.Lists.Members.{list-same}
@@ -18,18 +18,16 @@ use Rattle.links.proofs.Times.{times_other}
 use Rattle.links.proofs.Steps.{times-without, times-without-le}
 use Rattle.pend_lists.specs.Pending.{IsAbsent, waiters}
 use Rattle.pend_lists.proofs.Tasks.{times_waited}
-use Rattle.micro_steps.specs.declared.link.Link.{Link}
-use Rattle.micro_steps.specs.declared.link.Link.TheVariants as link
 use Rattle.micro_steps.specs.Blocks.{prio_in, prio_by, no_prio}
 use Rattle.micro_steps.specs.Halfway.{tasks_in, seen_lists}
-use Rattle.micro_steps.specs.Whole.{AreFit, lists_after, prios_after, task_blocks}
+use Rattle.micro_steps.specs.Whole.{AreFit, lists_after, task_blocks}
 use Rattle.micro_steps.proofs.Seen.{list_at-tasks, list_at-take}
 use Rattle.link_plans.specs.Moves.{rewait_links}
 use Rattle.link_plans.specs.Renewals.{prios_past}
 use Rattle.link_plans.specs.Fits.{IsNoded}
 use Rattle.link_plans.proofs.BlockFits.{waited}
 use Rattle.link_plans.proofs.WakeFits.{counted}
-use Rattle.link_plans.proofs.NodeLaws.{count-append, place_after, times-count, total-none, object_below}
+use Rattle.link_plans.proofs.NodeLaws.{count-append, place_after, total-none, object_below}
 use Rattle.link_plans.proofs.NodeKeeps.{times-left-le, times-inserted-le}
 use Rattle.link_plans.proofs.MoveSeen.{seen-left, seen-inserted, place-nodes, place-same}
 
@@ -101,10 +99,10 @@ module _ (n : ℕ) (ts : List Task) (x p : ℕ) (prio : ℕ → ℕ) (most : n �
     nowhere : total node gone.pend ≡ 0
     nowhere =
         total-none node gone.pend (λ r.
-            elim (eqb_tells r o) [
-              | inl e ↦ subst (λ q. times node (list_at gone.pend q) ≡ 0) (sym e.1) (ap (times node) gone_at ∙ times-without node (list_at l.pend o))
-              | inr e ↦ ap (times node) (get_or-set_other l.pend o r (without node (list_at l.pend o)) [] e.1) ∙ elsewhere r e.1
-            ])
+        elim (eqb_tells r o) [
+          | inl e ↦ subst (λ q. times node (list_at gone.pend q) ≡ 0) (sym e.1) (ap (times node) gone_at ∙ times-without node (list_at l.pend o))
+          | inr e ↦ ap (times node) (get_or-set_other l.pend o r (without node (list_at l.pend o)) [] e.1) ∙ elsewhere r e.1
+        ])
       where
         elsewhere : (r : ℕ) → (r ≡ o → ⊥) → times node (list_at l.pend r) ≡ 0
         elsewhere r far =

@@ -1,15 +1,17 @@
 -- Plans after which priorities are renewed: the moves that this takes, and what holds of their links.
-use Rattle.std.specs.Prelude.{◌≡◌, ◌<◌, ℕ, Bool, false, List, [], ◌∷◌, ◌++◌, length, map, ◌==◌}
+use Rattle.std.specs.Prelude.{◌≡◌, ◌<◌, ◌≤◌, ℕ, Bool, false, List, [], ◌∷◌, ◌++◌, length, map, ◌==◌}
 use Rattle.kern_base.specs.declared.numbers.Prio.{Prio}
 use Rattle.kern_model.specs.State.{Kernel, Task, task_at, task_in, prio_of, list_at, count_of, waits_for_nothing}
-use Rattle.kern_model.specs.Micro.{Block, Lists, changed_all, in_order, lists_of, plain, whole}
+use Rattle.kern_model.specs.Micro.{Block, Lists, after, changed_all, in_order, lists_of, plain, whole}
 use Rattle.kern_model.specs.Inherit.{inherited, moves_of, renewed, renewed_tasks, renew_blocks}
 use Rattle.kern_model.specs.Valid.{IsLinked}
 use Rattle.micro_steps.specs.declared.link.Link.{Link}
 use Rattle.micro_steps.specs.declared.link.Link.TheVariants as link
 use Rattle.micro_steps.specs.Blocks.{place_at, prio_in}
+use Rattle.micro_steps.specs.Halfway.{seen_lists}
 use Rattle.micro_steps.specs.Whole.{AreFit, lists_after, prios_after, task_blocks}
 use Rattle.link_plans.specs.declared.moves.Move.{Move}
+use Rattle.link_plans.specs.Plans.{block_links, wakes_links}
 use Rattle.link_plans.specs.Moves.{move_in, moves_links}
 use Rattle.link_plans.specs.Fits.{AreKernels, IsNoded}
 
@@ -81,3 +83,19 @@ abbrev pub RenewalsFollow : Type 0
 RenewalsFollow =
     (ts : List Task) (prios : List Prio) (tail : Bool) (links : List Link) (bs : List Block) (k j : Kernel) (l : Lists) →
     MayRenewAfter ts prios links bs k j l → IsRenewalAfter ts prios tail links bs k j l
+
+-- Links that fit lead from the kernel's lists to those that their blocks lead to.
+abbrev pub LinksLead : Type 0
+LinksLead =
+    (prios : List Prio) (links : List Link) (k : Kernel) (l : Lists) → IsLinked k → AreKernels k l → AreFit (length k.objects) prios links l →
+    seen_lists (length k.objects) (lists_after prios links l) ≡ after (in_order (task_blocks prios links) (lists_of k)) (lists_of k)
+
+-- the links of tasks that are woken leave the priorities
+abbrev pub WakesKeepPriorities : Type 0
+WakesKeepPriorities = (prios : List Prio) (ts : List Task) (compared : ℕ) (xs : List ℕ) → prios_past prios (wakes_links ts compared xs) ≡ prios
+
+-- and those of a caller that waits, where the priorities tell its own
+abbrev pub BlockKeepsPriorities : Type 0
+BlockKeepsPriorities =
+    (prios : List Prio) (ts : List Task) (x : ℕ) (os : List ℕ) → x < length prios → length os ≤ 8 → prio_in prios x ≡ (task_in ts x).prio →
+    (y : ℕ) → prio_in (prios_past prios (block_links ts x os)) y ≡ prio_in prios y
