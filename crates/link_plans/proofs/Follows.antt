@@ -28,7 +28,7 @@ use Rattle.link_plans.proofs.NodeLaws.{times-count}
 use Rattle.link_plans.proofs.MoveSeen.{place-nodes, seen-inserted, seen-left}
 use Rattle.link_plans.proofs.MovesHold.{blocks-append, fits-append, lists-append}
 use Rattle.link_plans.proofs.Past.{links_keep}
-use Rattle.link_plans.proofs.Renewals.{renewals_hold}
+use Rattle.link_plans.proofs.RenewalFits.{renewals_hold}
 
 -- no task stands twice in a list of waiters, and there are at least so many lists
 record AreSingle (n : ℕ) (l : Lists) : Type 0 where

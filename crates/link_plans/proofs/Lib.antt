@@ -10,5 +10,5 @@ pub mod MoveFacts
 pub mod MoveSeen
 pub mod Rewaits
 pub mod MovesHold
-pub mod Renewals
+pub mod RenewalFits
 pub mod Follows

@@ -3,3 +3,4 @@ pub mod Moves
 pub mod Fits
 pub mod Laws
 pub mod Renewals
+pub mod RenewalPlans

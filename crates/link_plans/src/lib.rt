@@ -7,6 +7,7 @@
 mod laws;
 mod moves;
 mod plan;
+mod renewal_plan;
 
 pub use laws::{
     a_block_fits, a_block_is_its_blocks, a_block_keeps_nodes, a_waiter_can_wake, links_keep_past,
@@ -15,3 +16,4 @@ pub use laws::{
 };
 pub use moves::{Move, Moves, Standing};
 pub use plan::Plan;
+pub use renewal_plan::RenewalPlan;
