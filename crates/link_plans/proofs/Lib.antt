@@ -12,3 +12,4 @@ pub mod Rewaits
 pub mod MovesHold
 pub mod RenewalFits
 pub mod Follows
+pub mod ToldFacts
