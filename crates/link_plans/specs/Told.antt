@@ -1,9 +1,14 @@
 -- The moves of a renewal, out of what is told of the tasks after a call.
-use Rattle.std.specs.Prelude.{◌≡◌, ◌<◌, ℕ, List, [], ◌∷◌, ◌++◌, Option, Some, None, if◌then◌else◌, ◌==◌, slice_index_or}
+use Rattle.std.specs.Prelude.{◌≡◌, ◌<◌, ℕ, Bool, not, ◌&&◌, ◌||◌, List, [], ◌∷◌, ◌++◌, Option, Some, None, if◌then◌else◌, ◌==◌, slice_index_or}
+use Rattle.std.specs.List.{list_any}
 use Rattle.kern_base.specs.declared.numbers.Prio.{Prio}
-use Rattle.kern_model.specs.State.{Kernel, Task, task_at, task_in, prio_of}
+use Rattle.kern_base.specs.declared.outcomes.Decision.{Decision}
+use Rattle.kern_base.specs.declared.outcomes.Decision.TheVariants.{Done, Block, Wake}
+use Rattle.kern_model.specs.State.{Kernel, Task, task_at, task_in, prio_of, is_zero, waits_for_nothing}
 use Rattle.kern_model.specs.Inherit.{inherited}
+use Rattle.link_plans.specs.declared.plan.Plan.{Plan}
 use Rattle.link_plans.specs.declared.moves.Standing.{Standing}
+use Rattle.link_plans.specs.declared.moves.Standing.TheVariants.{Ready, Waits, Nowhere}
 use Rattle.link_plans.specs.declared.moves.Move.{Move}
 use Rattle.link_plans.specs.Moves.{standing_of}
 
@@ -37,3 +42,18 @@ move_told ts prios standings x = move_if (standing_told standings x) x (task_in 
 abbrev pub moves_told : List Task → List Prio → List (Option Standing) → List ℕ → List Move
 moves_told ts prios standings [] = []
 moves_told ts prios standings (x ∷ xs) = move_told ts prios standings x ++ moves_told ts prios standings xs
+
+-- Where a task stands, by whether it lives, whether it waits for nothing, and how often it is suspended.
+abbrev pub standing_by : Bool → Bool → ℕ → Option Standing
+standing_by alive free suspended = if alive then Some (if alive && (free && is_zero suspended) then Ready else (if free then Nowhere else Waits)) else None
+
+-- whether x waits for nothing after a call, where it did before or not: a caller that blocks waits, and tasks that are woken do not
+abbrev pub free_after : Decision → ℕ → List ℕ → ℕ → Bool → Bool
+free_after (Done a) caller woken x free = free
+free_after Block caller woken x free = free && not (x == caller)
+free_after (Wake w) caller woken x free = free || list_any (λ y. y == x) woken
+
+-- where x stands after the call of a plan
+abbrev pub standing_after : Plan → List Task → ℕ → Option Standing
+standing_after q ts x =
+    let t = task_in ts x in standing_by t.alive (free_after q.decision q.caller.0 q.woken.items x (waits_for_nothing t.waiting)) t.suspended

@@ -8,6 +8,7 @@ mod laws;
 mod moves;
 mod plan;
 mod renewal_plan;
+mod standings;
 
 pub use laws::{
     a_block_fits, a_block_is_its_blocks, a_block_keeps_nodes, a_waiter_can_wake, links_keep_past,
