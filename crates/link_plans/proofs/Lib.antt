@@ -13,3 +13,4 @@ pub mod MovesHold
 pub mod RenewalFits
 pub mod Follows
 pub mod ToldFacts
+pub mod CallTells

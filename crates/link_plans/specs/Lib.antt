@@ -5,3 +5,4 @@ pub mod Fits
 pub mod Laws
 pub mod Renewals
 pub mod RenewalPlans
+pub mod AfterCalls

@@ -1,6 +1,7 @@
 // The two facts that a service owes of its plan, proved for all tasks, objects and lists. Each function does nothing: its contract
 // is the fact.
 
+ghost use Rattle.link_plans.specs.AfterCalls.{BlockKnowsObjects, BlockTells, WakesKeepObjects, WakesTell};
 ghost use Rattle.link_plans.specs.Renewals.{BlockKeepsPriorities, LinksLead, RenewalsFollow, RenewalsHold, WakesKeepPriorities};
 ghost use Rattle.link_plans.specs.Laws.{BlockFits, BlockIsBlocks, BlockKeepsNodes, LinksKeepPast, WaiterCanWake, WakesAreBlocks, WakesFit, WakesKeepNodes};
 
@@ -63,4 +64,16 @@ pub fn links_lead()
 pub fn links_keep_priorities()
     ensures wakes { WakesKeepPriorities }
     ensures block { BlockKeepsPriorities }
+{}
+
+/// What a plan and the records tell of the tasks after a call whose caller waits.
+pub fn a_block_tells()
+    ensures tasks { BlockTells }
+    ensures objects { BlockKnowsObjects }
+{}
+
+/// What a plan and the records tell of the tasks after a call that wakes tasks.
+pub fn wakes_tell()
+    ensures tasks { WakesTell }
+    ensures objects { WakesKeepObjects }
 {}

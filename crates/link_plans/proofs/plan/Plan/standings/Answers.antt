@@ -1,4 +1,4 @@
-use Rattle.std.proofs.Common.{◌≡◌, ◌≢◌, ◌<◌, ℕ, length, None, ap, ◌∙◌, arith, below_more, length-set, get_or-set_same, get_or-set_other}
+use Rattle.std.proofs.Common.{◌≢◌, ◌<◌, length, None, ap, ◌∙◌, arith, below_more, length-set, get_or-set_same, get_or-set_other}
 use Rattle.kern_model.specs.State.{Task, waits_for_nothing}
 use Rattle.link_plans.specs.Told.{free_after, standing_by}
 use Rattle.link_plans.proofs.plan.Plan.standings.Goals as goal
