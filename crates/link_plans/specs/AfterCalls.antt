@@ -27,7 +27,7 @@ WakesTell =
     (q : Plan) (f : Task → Finished) (compared : ℕ) (k : Kernel) (who : Who) → q.decision ≡ Wake who →
     TellsAfter q k.tasks (wakes_all f compared q.woken.items k).tasks
 
--- A caller that waits, whose present priority is its inherited one, does not move; so the records tell the objects of all that do.
+-- A caller that waits at its inherited priority does not move; so the records tell the objects of all tasks that do.
 abbrev pub BlockKnowsObjects : Type 0
 BlockKnowsObjects = (k : Kernel) (x : ℕ) (w : Wait) → prio_of k x ≡ inherited k x → KnowObjects k.tasks (blocked k x w)
 
