@@ -21,7 +21,7 @@ use Rattle.kern_model.specs.Valid.{has_result}
 use Rattle.kern_model.specs.Services.{post_request, program_serves, cost}
 use Rattle.kernel_calls.specs.KernelRecord.{KernelRecord, with_state}
 use Rattle.kernel_calls.specs.Works.{WorkRecord, IsBegun, begun, effect_of, stepped}
-use Rattle.machine_core.specs.declared.machine.Machine.TheInside.{Inside}
+use Rattle.machine_core.specs.MachineView.{Parts}
 use Rattle.machine_model.specs.Machine.{Machine, Work, WholeStep, CallOf, registers_at, handler_compares, effect_of as whole_effect}
 use Rattle.kern_base.specs.declared.requests.Request.{Request}
 use Rattle.machine_model.specs.declared.events.What.{What}
@@ -114,7 +114,7 @@ pub with_method : {m n : Machine} (d : Method) → m ≡ n → by_method d m ≡
 with_method d e = ap (by_method d) e
 
 -- its kernel is still, and its objects are of its kinds
-pub steady_in : (a : Inside) → IsKept a → IsSteady a.kinds a.kernel.state
+pub steady_in : (a : Parts) → IsKept a → IsSteady a.kinds a.kernel.state
 steady_in a k = record { still = k.parts.still; kinds = k.parts.kinds }
 
 waits-front : (later : List Queued) (q : Queued) → front later ≡ Some q → none_waits later ≡ false
@@ -129,13 +129,13 @@ first-of false h k x later e begun = cc
 -- The whole step in hand.
 
 -- the work in hand was begun on this kernel
-pub begun_in : (a : Inside) (h : WorkRecord) → IsKept a → a.in_hand ≡ Some h → IsBegunHere a.config h a.kernel.state
+pub begun_in : (a : Parts) (h : WorkRecord) → IsKept a → a.kernel.hand ≡ Some h → IsBegunHere a.config h a.kernel.state
 begun_in a h k e = rw e at k.parts.work
 
-stands_in : (a : Inside) (h : WorkRecord) → IsKept a → a.in_hand ≡ Some h → IsInHand program_serves a.config (step_of h) a.kernel.state a.current.0 a.later.posts
+stands_in : (a : Parts) (h : WorkRecord) → IsKept a → a.kernel.hand ≡ Some h → IsInHand program_serves a.config (step_of h) a.kernel.state a.current.0 a.later.posts
 stands_in a h k e = rw e at k.valid.stands
 
-advanced : (a : Inside) (h : WorkRecord) → GoesOn a.method (machine_of a) → a.in_hand ≡ Some h → change a.method (machine_of a) ≡ advances program_serves (step_of h) (machine_of a)
+advanced : (a : Parts) (h : WorkRecord) → GoesOn a.method (machine_of a) → a.kernel.hand ≡ Some h → change a.method (machine_of a) ≡ advances program_serves (step_of h) (machine_of a)
 advanced a h r e =
     let hand : (machine_of a).in_hand ≡ Some (step_of h) = ap hand_of e in
     let micro : rule a.method (machine_of a) ≡ MicroStep (step_of h) = r ∙ ap (λ o. rule_in_hand o (machine_of a)) hand in
@@ -174,20 +174,20 @@ step-stepped : (h g : WorkRecord) → g ≡ stepped h → step_of g ≡ record {
 step-stepped h g s =
     ap step_of s ∙ ap (λ (w : Work). let x : WholeStep = record { work = w; done = h.done + 1 } in x) (work-stepped (h.caller == 63) h)
 
-more-change : (a : Inside) (h : WorkRecord) → IsKept a → GoesOn a.method (machine_of a) → a.in_hand ≡ Some h → 1 < h.left → change a.method (machine_of a) ≡ record { what = NoLine; machine = record (machine_of a) { in_hand = Some (record { work = (step_of h).work; done = h.done + 1 }) } }
+more-change : (a : Parts) (h : WorkRecord) → IsKept a → GoesOn a.method (machine_of a) → a.kernel.hand ≡ Some h → 1 < h.left → change a.method (machine_of a) ≡ record { what = NoLine; machine = record (machine_of a) { in_hand = Some (record { work = (step_of h).work; done = h.done + 1 }) } }
 more-change a h k r e p = advanced a h r e ∙ rw (more_left a.config h a.kernel.state (begun_in a h k e) p) refl
 
-more-state : (a : Inside) (h g : WorkRecord) → IsKept a → GoesOn a.method (machine_of a) → a.in_hand ≡ Some h → 1 < h.left → g ≡ stepped h → machine_of (record a { in_hand = Some g }) ≡ (change a.method (machine_of a)).machine
+more-state : (a : Parts) (h g : WorkRecord) → IsKept a → GoesOn a.method (machine_of a) → a.kernel.hand ≡ Some h → 1 < h.left → g ≡ stepped h → machine_of (record a { in_hand = Some g }) ≡ (change a.method (machine_of a)).machine
 more-state a h g k r e p s =
     ap (λ (w : WholeStep). let m : Machine = record (machine_of a) { in_hand = Some w } in m) (step-stepped h g s) ∙ ap (λ (c : Change). c.machine) (sym (more-change a h k r e p))
 
-pub more-machine : (a : Inside) (h g : WorkRecord) → IsKept a → GoesOn a.method (machine_of a) → a.in_hand ≡ Some h → 1 < h.left → g ≡ stepped h → method_machine_of (record a { in_hand = Some g }) ≡ changed (method_machine_of a)
+pub more-machine : (a : Parts) (h g : WorkRecord) → IsKept a → GoesOn a.method (machine_of a) → a.kernel.hand ≡ Some h → 1 < h.left → g ≡ stepped h → method_machine_of (record a { in_hand = Some g }) ≡ changed (method_machine_of a)
 more-machine a h g k r e p s = with_method a.method (more-state a h g k r e p s)
 
-pub more-line : (a : Inside) (h : WorkRecord) → IsKept a → GoesOn a.method (machine_of a) → a.in_hand ≡ Some h → 1 < h.left → NoLine ≡ (change a.method (machine_of a)).what
+pub more-line : (a : Parts) (h : WorkRecord) → IsKept a → GoesOn a.method (machine_of a) → a.kernel.hand ≡ Some h → 1 < h.left → NoLine ≡ (change a.method (machine_of a)).what
 more-line a h k r e p = ap (λ (c : Change). c.what) (sym (more-change a h k r e p))
 
-pub more-kept : (a : Inside) (h g : WorkRecord) → IsKept a → GoesOn a.method (machine_of a) → a.in_hand ≡ Some h → a.t < most_task_steps → 1 < h.left → g ≡ stepped h → IsBegun g a.kernel.state → IsKept (record a { in_hand = Some g })
+pub more-kept : (a : Parts) (h g : WorkRecord) → IsKept a → GoesOn a.method (machine_of a) → a.kernel.hand ≡ Some h → a.t < most_task_steps → 1 < h.left → g ≡ stepped h → IsBegun g a.kernel.state → IsKept (record a { in_hand = Some g })
 more-kept a h g k r e open_yet p s b =
     let fits : IsFit (h.caller == 63) a.config h = (begun_in a h k e).fit in
     kept-change a (record a { in_hand = Some g }) k open_yet (more-machine a h g k r e p s)
@@ -195,7 +195,7 @@ more-kept a h g k r e open_yet p s b =
 
 -- the last micro-step of a call, by its outcome
 
-ended : (o : Outcome) (k : Kernel) (h : WorkRecord) (a : Inside) (n : KernelRecord) (current : TaskId) → HasNoTable o → h.caller ≡ a.current.0 → n ≡ ended_kernel (with_state a.kernel k) a.current.0 h.request.service o → current.0 ≡ settled_task n.state a.later.posts a.current.0
+ended : (o : Outcome) (k : Kernel) (h : WorkRecord) (a : Parts) (n : KernelRecord) (current : TaskId) → HasNoTable o → h.caller ≡ a.current.0 → n ≡ ended_kernel (with_state a.kernel k) a.current.0 h.request.service o → current.0 ≡ settled_task n.state a.later.posts a.current.0
     → machine_of (record a { kernel = n; current = current; in_hand = None; t = a.t + 1 }) ≡ (call_ends h.caller h.request.service o k (machine_of a)).machine
 ended (Answered x taken) k h a n current plain caller e settles = rw (settles, e, caller, plain) refl
 ended Waits k h a n current plain caller e settles = rw (settles, e) refl
@@ -210,7 +210,7 @@ ended-state k x s Gone = refl
 ended-state k x s (Quiet u) = refl
 
 -- what is told of it
-ended-told : (o : Outcome) (k : Kernel) (h : WorkRecord) (a : Inside) → HasNoTable o → h.caller ≡ a.current.0 → ended_line a.current.0 h.request.service o ≡ (call_ends h.caller h.request.service o k (machine_of a)).what
+ended-told : (o : Outcome) (k : Kernel) (h : WorkRecord) (a : Parts) → HasNoTable o → h.caller ≡ a.current.0 → ended_line a.current.0 h.request.service o ≡ (call_ends h.caller h.request.service o k (machine_of a)).what
 ended-told (Answered x taken) k h a plain caller = rw (caller, plain) refl
 ended-told Waits k h a plain caller = rw caller refl
 ended-told Gone k h a plain caller = rw caller refl
@@ -221,7 +221,7 @@ caller-of : (b : Bool) (h : WorkRecord) (k : Kernel) (x : ℕ) (later : List Que
 caller-of true h k x later e begun = cc
 caller-of false h k x later e begun = begun.caller
 
-module _ (a : Inside) (h : WorkRecord) (k : IsKept a) (r : GoesOn a.method (machine_of a)) (e : a.in_hand ≡ Some h) (p : h.left ≡ 1) where
+module _ (a : Parts) (h : WorkRecord) (k : IsKept a) (r : GoesOn a.method (machine_of a)) (e : a.kernel.hand ≡ Some h) (p : h.left ≡ 1) where
   abbrev f : Effect
   f = effect_of h a.kernel.state
 
@@ -286,7 +286,7 @@ module _ (a : Inside) (h : WorkRecord) (k : IsKept a) (r : GoesOn a.method (mach
 -- What the current task does.
 
 -- it has read its result
-finish-answered : (a : Inside) (n : KernelRecord) (o : Option Finished) → has_result o ≡ true → n ≡ finished_by o a.kernel a.current.0 → ((memory : List ℕ) → with_table o memory ≡ memory) → machine_of (record a { kernel = n; t = a.t + 1 }) ≡ (acts program_serves a.current.0 o (machine_of a)).machine
+finish-answered : (a : Parts) (n : KernelRecord) (o : Option Finished) → has_result o ≡ true → n ≡ finished_by o a.kernel a.current.0 → ((memory : List ℕ) → with_table o memory ≡ memory) → machine_of (record a { kernel = n; t = a.t + 1 }) ≡ (acts program_serves a.current.0 o (machine_of a)).machine
 finish-answered a n None e kernel no_table = cc
 finish-answered a n (Some f) e kernel no_table = rw (kernel, no_table a.ram) refl
 
@@ -294,12 +294,12 @@ finished-state : (o : Option Finished) (k : KernelRecord) (x : ℕ) → has_resu
 finished-state None k x e = cc
 finished-state (Some f) k x e = refl
 
-pub finish-machine : (a : Inside) (n : KernelRecord) → rule a.method (machine_of a) ≡ TaskActs → has_result (task_at a.kernel.state a.current.0).answered ≡ true → n ≡ finished_kernel a.kernel a.current.0
+pub finish-machine : (a : Parts) (n : KernelRecord) → rule a.method (machine_of a) ≡ TaskActs → has_result (task_at a.kernel.state a.current.0).answered ≡ true → n ≡ finished_kernel a.kernel a.current.0
     → ((memory : List ℕ) → with_table (task_at a.kernel.state a.current.0).answered memory ≡ memory) → method_machine_of (record a { kernel = n; t = a.t + 1 }) ≡ changed (method_machine_of a)
 finish-machine a n r e kernel no_table =
     with_method a.method (finish-answered a n (task_at a.kernel.state a.current.0).answered e kernel no_table ∙ ap (λ (c : Change). c.machine) (sym (by_rule a.method (machine_of a) TaskActs r)))
 
-pub finish-steady : (a : Inside) (n : KernelRecord) → IsKept a → has_result (task_at a.kernel.state a.current.0).answered ≡ true → n ≡ finished_kernel a.kernel a.current.0 → IsSteady a.kinds n.state
+pub finish-steady : (a : Parts) (n : KernelRecord) → IsKept a → has_result (task_at a.kernel.state a.current.0).answered ≡ true → n ≡ finished_kernel a.kernel a.current.0 → IsSteady a.kinds n.state
 finish-steady a n k e kernel =
     let same : n.state ≡ finished a.current.0 a.kernel.state = ap (λ (j : KernelRecord). j.state) kernel ∙ finished-state (task_at a.kernel.state a.current.0).answered a.kernel a.current.0 e in
     rw same (steady-finished a.kinds a.current.0 a.kernel.state (steady_in a k))
@@ -314,7 +314,7 @@ none-hand None e = refl
 none-hand (Some h) e = cc
 
 -- the take of the first post begins
-module _ (a : Inside) (k : IsKept a) (r : GoesOn a.method (machine_of a)) (free : hand_of a.in_hand ≡ None) (may : may_take (machine_of a) ≡ true) (s : Service) (args : List ℕ) (saved compared : ℕ) (first : front a.later.posts ≡ Some (record { service = s; args = args; saved = saved })) where
+module _ (a : Parts) (k : IsKept a) (r : GoesOn a.method (machine_of a)) (free : hand_of a.kernel.hand ≡ None) (may : may_take (machine_of a) ≡ true) (s : Service) (args : List ℕ) (saved compared : ℕ) (first : front a.later.posts ≡ Some (record { service = s; args = args; saved = saved })) where
   taken-rule : rule a.method (machine_of a) ≡ TakeBegins (record { service = s; args = args; saved = saved })
   taken-rule =
       let (p, there, told) = takes-next a.method (machine_of a) r free may in
@@ -339,7 +339,7 @@ pub not_handler : (x : ℕ) → x < 60 → (x == 63) ≡ false
 not_handler x p = ne_eqb x 63 (λ (e : x ≡ 63). omega (arith, e, p))
 
 -- an application's task has called
-module _ (a : Inside) (x : ℕ) (p : x < 60) where
+module _ (a : Parts) (x : ℕ) (p : x < 60) where
   abbrev pub e : Execution
   e = exec a.program (registers_at (machine_of a) x) a.ram
 

@@ -4,7 +4,7 @@ use Rattle.machine_core.proofs.interrupts.frame_step_by.Goals as goal
 
 -- posts act at once
 pub returns-in-Direct-clause-rule : goal.returns-in-Direct-clause-rule
-returns-in-Direct-clause-rule c = λ m parts same.
+returns-in-Direct-clause-rule g c = λ m parts same.
     let is = direct-step m c.args.program.now c.args.kinds.now c.args.prio.0 c.args.frames.now c.args.ram.now c.args.later.now c.args.kernel.now parts same in
     rw c.in-Direct.is (record {
       line = c.frame_step.ensures.line ∙ is.what;
@@ -16,7 +16,7 @@ returns-in-Direct-clause-rule c = λ m parts same.
 
 -- or go into the queue
 pub returns-in-Deferred-clause-rule : goal.returns-in-Deferred-clause-rule
-returns-in-Deferred-clause-rule c = λ m parts same.
+returns-in-Deferred-clause-rule g c = λ m parts same.
     let by = c.isr_step_into.ensures.rule m parts in
     let is = step-of m c.args.program.now c.args.kinds.now c.args.prio.0 c.args.frames.now c.args.ram.now c.args.later.now parts in
     rw c.in-Deferred.is (record {

@@ -21,6 +21,7 @@ use Rattle.kernel_calls.specs.KernelRecord.{KernelRecord, ended}
 use Rattle.kernel_calls.specs.declared.stepping.Progress.TheVariants.{Done}
 use Rattle.kernel_calls.specs.KernelView.{IsSound, hand_of, state_with}
 use Rattle.kernel_calls.proofs.StepFacts.{below-cost, busy-of, few-steps, hand-back, hand-next, in-hand, left-below, none-left, IsSamePlan}
+use Rattle.kernel_calls.proofs.ServedFacts.{all-single}
 use Rattle.kernel_calls.proofs.EndFacts.{halves-made, same-concluded, same-outcome, sound-end, is-last, linked-made, nodes-made, outcome-made, prios-made, served-made, state-made}
 use Rattle.kernel_calls.proofs.kernels.Kernel.advance.Goals as goal
 
@@ -216,3 +217,6 @@ returns-in-None-clause-done g c =
     λ v e n.
     let same : v ≡ w = both-hands v w c.args.self.now.hand e (c.requires.busy.1 ∙ ap Some (sym b.1)) in
     rw (same, ← c.self.view_is) (ap Done outcome, ap (λ s. record { state = s; registers = c.conclude-outcome.new.self.registers; hand = None }) state ∙ ap (λ rs. record { state = (effect_of w k).kernel; registers = rs; hand = None }) registers)
+
+pub conclude-outcome-requires-clause-single : goal.conclude-outcome-requires-clause-single
+conclude-outcome-requires-clause-single g c = all-single (state_with c.self.inside.records.state c.self.inside.steps.start) c.self.invariant.valid c.self.invariant.served

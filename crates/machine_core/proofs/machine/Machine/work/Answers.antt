@@ -1,19 +1,19 @@
 use Rattle.std.proofs.Common.{◌≡◌, ◌<◌, sym, ◌∙◌, subst, arith}
 use Rattle.machine_core.specs.MethodMachine.{MethodMachine}
 use Rattle.machine_core.specs.Valid.{changed}
-use Rattle.machine_core.specs.MachineView.{machine_of, method_machine_of}
+use Rattle.machine_core.specs.MachineView.{machine_of, method_machine_of, parts}
 use Rattle.machine_core.proofs.KeptLaws.{kept-steps, next-more}
 use Rattle.machine_core.proofs.MachineFacts.{GoesOn, raw-goes_on, none-hand}
 use Rattle.machine_core.proofs.machine.Machine.work.Goals as goal
 use Rattle.machine_core.proofs.machine.Machine.work.Goals.{then-is_some, else-is_some}
 
 pub begin-requires-clause-free : goal.begin-requires-clause-free
-begin-requires-clause-free c = rw (← c.self.view_is) (none-hand c.self.inside.in_hand (sym c.is_some.ensures ∙ c.if-is_some.false))
+begin-requires-clause-free g c = rw (← c.self.view_is) (none-hand c.self.inside.in_hand (sym c.is_some.ensures ∙ c.if-is_some.false))
 
 -- the raw step is within the bound
 pub invariant_of-self : goal.invariant_of-self
-invariant_of-self c =
-    let a = c.self.inside in
+invariant_of-self g c =
+    let a = parts c.self.inside.method c.self.inside.kernel c.self.inside.kinds c.self.inside.ram c.self.inside.program c.self.inside.config c.self.inside.current c.self.inside.frames c.self.inside.later c.self.inside.begun c.self.inside.s c.self.inside.t in
     let open_yet : a.t < 1000000 = rw (← c.self.view_is) at c.requires.open_yet in
     let moved : c.if-is_some.self ≡ changed c.args.self.now
     = elim c.if-is_some.branch [ then-is_some w ↦ w.self-is ∙ w.advance.ensures.machine | else-is_some w ↦ w.self-is ∙ w.begin.ensures.machine ] in
@@ -21,8 +21,8 @@ invariant_of-self c =
     kept-steps a c.self-2.inside c.self.invariant open_yet happened c.self-2.invariant.parts 1 (omega arith)
 
 pub returns-clause-machine : goal.returns-clause-machine
-returns-clause-machine c =
-    let a = c.self.inside in
+returns-clause-machine g c =
+    let a = parts c.self.inside.method c.self.inside.kernel c.self.inside.kinds c.self.inside.ram c.self.inside.program c.self.inside.config c.self.inside.current c.self.inside.frames c.self.inside.later c.self.inside.begun c.self.inside.s c.self.inside.t in
     let goes : GoesOn a.method (machine_of a) = rw (← c.self.view_is) at c.requires.rule in
     let moved : c.if-is_some.self ≡ changed c.args.self.now
     = elim c.if-is_some.branch [ then-is_some w ↦ w.self-is ∙ w.advance.ensures.machine | else-is_some w ↦ w.self-is ∙ w.begin.ensures.machine ] in
