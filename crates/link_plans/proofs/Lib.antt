@@ -14,3 +14,4 @@ pub mod RenewalFits
 pub mod Follows
 pub mod ToldFacts
 pub mod CallTells
+pub mod CallRenews
