@@ -1,6 +1,6 @@
 -- The links of a call, and of the renewal behind them.
 use Rattle.std.proofs.Common.{◌≡◌, ℕ, ◌+◌, ◌*◌, ◌/◌, ◌<◌, ◌≤◌, Bool, true, false, List, [], ◌∷◌, length, refl, sym, ap, ◌∙◌, subst, arith, inl, inr}
-use Rattle.std.specs.Prelude.{All, ◌==◌, if◌then◌else◌}
+use Rattle.std.specs.Prelude.{All, if◌then◌else◌}
 use Rattle.std.proofs.Math.Nat.{not-suc-le-zero}
 use Rattle.std.proofs.lemmas.Bool.Decides.{eqb_tells}
 use Rattle.kern_base.specs.declared.numbers.Prio.{Prio}
@@ -23,7 +23,6 @@ use Rattle.link_plans.proofs.Follows.{block_keeps_prios, renewals_follow, wakes_
 use Rattle.link_plans.proofs.NodeKeeps.{block_keeps, wakes_keep}
 use Rattle.link_plans.proofs.NodeLaws.{waiter_can_wake}
 use Rattle.link_plans.proofs.Rows.{block-row, wakes-row}
-use Rattle.link_plans.proofs.WakeFits.{counted}
 use Rattle.link_plans.proofs.WakeKeeps.{all_wakes_fit}
 
 pub block_renews : (prios : List Prio) (tail : Bool) (k : Kernel) (x : ℕ) (w : Wait) (l : Lists) → IsLinked k → AreKernels k l → IsLinked (blocked k x w) → TellAll prios k → x < 64 → is_ready (task_at k x) ≡ true → All (λ o. o < length k.objects) w.objects → ((o : ℕ) → count_of o w.objects ≤ 1) → length w.objects ≤ 8 → prio_of k x ≡ inherited k x → IsRenewalAfter k.tasks prios tail (block_links k.tasks x w.objects) (block_blocks k x w.objects) k (blocked k x w) l

@@ -15,3 +15,4 @@ pub mod Follows
 pub mod ToldFacts
 pub mod CallTells
 pub mod CallRenews
+pub mod MovesWritten

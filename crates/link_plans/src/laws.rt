@@ -2,7 +2,7 @@
 // is the fact.
 
 ghost use Rattle.link_plans.specs.AfterCalls.{BlockKnowsObjects, BlockRenews, BlockTells, PlainRenews, WakesKeepObjects, WakesRenew, WakesTell};
-ghost use Rattle.link_plans.specs.Renewals.{BlockKeepsPriorities, LinksLead, RenewalsFollow, RenewalsHold, WakesKeepPriorities};
+ghost use Rattle.link_plans.specs.Renewals.{BlockKeepsPriorities, LinksLead, RenewalMovesPriorities, RenewalMovesTasks, RenewalsFollow, RenewalsHold, WakesKeepPriorities};
 ghost use Rattle.link_plans.specs.Laws.{BlockFits, BlockIsBlocks, BlockKeepsNodes, LinksKeepPast, WaiterCanWake, WakesAreBlocks, WakesFit, WakesKeepNodes};
 
 /// The links of tasks that are woken are the blocks of their wakes.
@@ -84,4 +84,10 @@ pub fn calls_renew()
     ensures block { BlockRenews }
     ensures wakes { WakesRenew }
     ensures plain { PlainRenews }
+{}
+
+/// The records and the priorities after a renewal are those before it with each move written.
+pub fn moves_are_written()
+    ensures tasks { RenewalMovesTasks }
+    ensures priorities { RenewalMovesPriorities }
 {}
