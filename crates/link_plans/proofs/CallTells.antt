@@ -95,7 +95,7 @@ wakes_stand f h (y ∷ ys) k x =
         ∙ ap (λ c. standing_by t.alive c t.suspended) (sym (or_true free))
         ∙ ap (λ c. standing_by t.alive (free || (c || others)) t.suspended) (sym e)
 
-prio-woken : (f : Task → Finished) (h : ℕ) (xs : List ℕ) (k : Kernel) (x : ℕ) → prio_of (wakes_all f h xs k) x ≡ prio_of k x
+pub prio-woken : (f : Task → Finished) (h : ℕ) (xs : List ℕ) (k : Kernel) (x : ℕ) → prio_of (wakes_all f h xs k) x ≡ prio_of k x
 prio-woken f h [] k x = refl
 prio-woken f h (y ∷ ys) k x = prio-woken f h ys (wakes (f (task_at k y)) h y k) x ∙ prio_of-wakes (f (task_at k y)) h y k x
 

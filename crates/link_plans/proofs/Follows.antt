@@ -119,7 +119,7 @@ links_lead n prios (k ∷ ks) l fit s =
     ∙ ap (λ a. after (in_order (task_blocks now ks) a) a) (leads_one n now k l fit.0 s)
     ∙ sym (after-append b (in_order (task_blocks now ks) (after b (seen_lists n l))) (seen_lists n l))
 
-size-past : (prios : List Prio) (ks : List Link) → length (prios_past prios ks) ≡ length prios
+pub size-past : (prios : List Prio) (ks : List Link) → length (prios_past prios ks) ≡ length prios
 size-past prios [] = refl
 size-past prios (link.Unready x p ∷ ks) = size-past prios ks
 size-past prios (link.Ready x p tail ∷ ks) = size-past prios ks

@@ -14,3 +14,5 @@ pub mod RenewalFits
 pub mod Follows
 pub mod ToldFacts
 pub mod CallTells
+pub mod CallRenews
+pub mod MovesWritten

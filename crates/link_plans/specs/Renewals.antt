@@ -1,9 +1,9 @@
 -- Plans after which priorities are renewed: the moves that this takes, and what holds of their links.
-use Rattle.std.specs.Prelude.{◌≡◌, ◌<◌, ◌≤◌, ℕ, Bool, false, List, [], ◌∷◌, ◌++◌, length, map, ◌==◌}
+use Rattle.std.specs.Prelude.{◌≡◌, ◌<◌, ◌≤◌, ℕ, Bool, false, List, [], ◌∷◌, ◌++◌, length, map, ◌==◌, slice_set}
 use Rattle.kern_base.specs.declared.numbers.Prio.{Prio}
-use Rattle.kern_model.specs.State.{Kernel, Task, task_at, task_in, prio_of, list_at, count_of, waits_for_nothing}
+use Rattle.kern_model.specs.State.{Kernel, Task, task_at, task_in, prio_of, list_at, count_of, update_task, waits_for_nothing}
 use Rattle.kern_model.specs.Micro.{Block, Lists, after, changed_all, in_order, lists_of, plain, whole}
-use Rattle.kern_model.specs.Inherit.{inherited, moves_of, renewed, renewed_tasks, renew_blocks}
+use Rattle.kern_model.specs.Inherit.{inherited, moves_of, renewed, renewed_tasks, renew_blocks, with_prio}
 use Rattle.kern_model.specs.Valid.{IsLinked}
 use Rattle.micro_steps.specs.declared.link.Link.{Link}
 use Rattle.micro_steps.specs.declared.link.Link.TheVariants as link
@@ -99,3 +99,23 @@ abbrev pub BlockKeepsPriorities : Type 0
 BlockKeepsPriorities =
     (prios : List Prio) (ts : List Task) (x : ℕ) (os : List ℕ) → x < length prios → length os ≤ 8 → prio_in prios x ≡ (task_in ts x).prio →
     (y : ℕ) → prio_in (prios_past prios (block_links ts x os)) y ≡ prio_in prios y
+
+-- The records and the priorities after moves, which are written when the step ends.
+abbrev pub tasks_moved : List Move → List Task → List Task
+tasks_moved [] ts = ts
+tasks_moved (m ∷ ms) ts = tasks_moved ms (update_task ts m.task.0 (with_prio m.to.0))
+
+abbrev pub prios_moved : List Move → List Prio → List Prio
+prios_moved [] prios = prios
+prios_moved (m ∷ ms) prios = prios_moved ms (slice_set prios m.task.0 m.to)
+
+-- the records of the kernel after a renewal
+abbrev pub RenewalMovesTasks : Type 0
+RenewalMovesTasks = (tail : Bool) (k : Kernel) → (renewed (place_at tail) k).tasks ≡ tasks_moved (renewal_moves k) k.tasks
+
+-- and its priorities, out of those that its links leave
+abbrev pub RenewalMovesPriorities : Type 0
+RenewalMovesPriorities =
+    (ts : List Task) (prios : List Prio) (tail : Bool) (k : Kernel) → IsLinked k → length prios ≡ 64 → ((x : ℕ) → length (task_in ts x).objects ≤ 8) →
+    ((x : ℕ) → prio_in prios x ≡ prio_of k x) →
+    (x : ℕ) → prio_in (prios_moved (renewal_moves k) (prios_past prios (renewal_links ts tail k))) x ≡ prio_of (renewed (place_at tail) k) x

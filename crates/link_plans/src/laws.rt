@@ -1,8 +1,8 @@
 // The two facts that a service owes of its plan, proved for all tasks, objects and lists. Each function does nothing: its contract
 // is the fact.
 
-ghost use Rattle.link_plans.specs.AfterCalls.{BlockKnowsObjects, BlockTells, WakesKeepObjects, WakesTell};
-ghost use Rattle.link_plans.specs.Renewals.{BlockKeepsPriorities, LinksLead, RenewalsFollow, RenewalsHold, WakesKeepPriorities};
+ghost use Rattle.link_plans.specs.AfterCalls.{BlockKnowsObjects, BlockRenews, BlockTells, PlainRenews, WakesKeepObjects, WakesRenew, WakesTell};
+ghost use Rattle.link_plans.specs.Renewals.{BlockKeepsPriorities, LinksLead, RenewalMovesPriorities, RenewalMovesTasks, RenewalsFollow, RenewalsHold, WakesKeepPriorities};
 ghost use Rattle.link_plans.specs.Laws.{BlockFits, BlockIsBlocks, BlockKeepsNodes, LinksKeepPast, WaiterCanWake, WakesAreBlocks, WakesFit, WakesKeepNodes};
 
 /// The links of tasks that are woken are the blocks of their wakes.
@@ -76,4 +76,18 @@ pub fn a_block_tells()
 pub fn wakes_tell()
     ensures tasks { WakesTell }
     ensures objects { WakesKeepObjects }
+{}
+
+/// The links of a call after which priorities are renewed: of a caller that waits, of tasks that are woken, or none; and those of
+/// the renewal behind them. They fit, are the blocks of the call, and end with the lists of the kernel after it.
+pub fn calls_renew()
+    ensures block { BlockRenews }
+    ensures wakes { WakesRenew }
+    ensures plain { PlainRenews }
+{}
+
+/// The records and the priorities after a renewal are those before it with each move written.
+pub fn moves_are_written()
+    ensures tasks { RenewalMovesTasks }
+    ensures priorities { RenewalMovesPriorities }
 {}
