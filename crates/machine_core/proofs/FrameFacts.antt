@@ -40,10 +40,10 @@ use Rattle.deferred_queue.specs.QueueRecord.{QueueRecord}
 use Rattle.machine_core.specs.Posts.{post_at_once, post_later}
 use Rattle.machine_core.specs.FrameCalls.{called_by, next_step, step_by, refused_frame, task_below}
 use Rattle.machine_core.specs.MethodMachine.{next_machine}
-use Rattle.machine_core.specs.MachineView.{machine_of, method_machine_of, hand_of, IsKept, IsBegunOn, HasVectors}
+use Rattle.machine_core.specs.MachineView.{machine_of, method_machine_of, hand_of, IsKept, IsFitHand, HasVectors}
 use Rattle.machine_core.specs.Valid.{change, changed, most_task_steps}
 use Rattle.machine_core.proofs.ComingLaws.{Comes, free-is}
-use Rattle.machine_core.proofs.MachineFacts.{by_rule, none_begun, steady_in, with_method}
+use Rattle.machine_core.proofs.MachineFacts.{by_rule, none_fit, steady_in, with_method}
 use Rattle.machine_core.proofs.KeptLaws.{kept-change, next-same}
 use Rattle.machine_core.proofs.StillLaws.{IsSteady, steady-effect}
 use Rattle.machine_core.proofs.FrameRules.{after-is, comes-runs, IsStep, step-runs, keeps-step, goes-direct, goes-deferred}
@@ -188,11 +188,11 @@ steady-runs Direct m f below table h =
 steady-runs Deferred m f below table h = subst (IsSteady table) (deferred-is m f below).kernel h
 
 -- by the direct method nothing is in hand while a frame stands, and by the deferred one its kernel stays
-work-runs : (a : Parts) (f : FrameRecord) (below : List FrameRecord) (d : Method) → a.method ≡ d → IsKept a → a.frames.frames ≡ f ∷ below → IsBegunOn a.config a.kernel.hand (frame_runs program_serves d f below (machine_of a)).machine.kernel
+work-runs : (a : Parts) (f : FrameRecord) (below : List FrameRecord) (d : Method) → a.method ≡ d → IsKept a → a.frames.frames ≡ f ∷ below → IsFitHand a.config a.kernel.hand
 work-runs a f below Direct e k top =
     let valid : IsValidMachine program_serves Direct (machine_of a) = subst (λ (d : Method). IsValidMachine program_serves d (machine_of a)) e k.valid in
-    none_begun a.config a.kernel.hand _ (elim valid.fits.masked [ inl none ↦ none | inr none ↦ (let no : f ∷ below ≡ [] = sym top ∙ none in cc) ])
-work-runs a f below Deferred e k top = subst (IsBegunOn a.config a.kernel.hand) (deferred-is (machine_of a) f below).kernel k.parts.work
+    none_fit a.config a.kernel.hand (elim valid.fits.masked [ inl none ↦ none | inr none ↦ (let no : f ∷ below ≡ [] = sym top ∙ none in cc) ])
+work-runs a f below Deferred e k top = k.parts.work
 
 -- What a step of the top frame leaves is what the rule does: its parts, and the current task, which follows from them.
 module _ (a : Parts) (f : FrameRecord) (below : List FrameRecord) (k : IsKept a) (top : a.frames.frames ≡ f ∷ below) (r : rule a.method (machine_of a) ≡ FrameRuns f below) where

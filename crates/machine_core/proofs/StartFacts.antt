@@ -31,7 +31,7 @@ use Rattle.machine_laws.proofs.NextValid.{valid-start_machine}
 use Rattle.machine_core.specs.MachineView.{Parts}
 use Rattle.machine_core.specs.MachineView.{machine_of, hand_of, IsKept, HasVectors}
 use Rattle.machine_core.specs.Valid.{IsStill, most_task_steps, most_events}
-use Rattle.machine_core.proofs.MachineFacts.{none_begun}
+use Rattle.machine_core.proofs.MachineFacts.{none_fit}
 use Rattle.machine_core.proofs.CurrentLaws.{pick-below}
 
 -- The interrupts.
@@ -116,7 +116,7 @@ kept-loaded image list a h words l e kinds size =
       parts = record {
         still = subst (λ (m : Machine). IsStill m.kernel) (sym e) still;
         kinds = ap (λ (m : Machine). kinds_of m.kernel) e ∙ kinds-start image ∙ sym kinds;
-        work = none_begun a.config a.kernel.hand a.kernel.state none;
+        work = none_fit a.config a.kernel.hand none;
         size = size ∙ ap (λ (m : Machine). m.config.defer_size) (sym e);
         vectors = vectors-start image list a.frames h l (ap (λ (m : Machine). m.frames) e) (ap (λ (m : Machine). m.interrupts) e);
       };

@@ -1,6 +1,6 @@
 // One instruction of interrupt code, wherever its posts go.
 
-ghost use Rattle.std.specs.Prelude.{◌≡◌, ◌==◌, ◌<◌, ◌-◌, ◌^◌, ◌∷◌, [], drop, false};
+ghost use Rattle.std.specs.Prelude.{◌≡◌, ◌==◌, ◌<◌, ◌-◌, ◌^◌, ◌∷◌, [], drop, false, true};
 ghost use Rattle.kern_base.specs.Numbers.{leave};
 ghost use Rattle.kern_base.specs.Services.{service_of};
 ghost use Rattle.kern_base.specs.Checks.{static_error};

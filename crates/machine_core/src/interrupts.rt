@@ -1,11 +1,12 @@
 // Interrupts enter, and frames of interrupt code run and leave.
 
-ghost use Rattle.std.specs.Prelude.{◌≡◌, ◌<◌, ◌-◌, ◌^◌, ◌∷◌, drop, false, Some, option_map, IsSomeAnd};
+ghost use Rattle.std.specs.Prelude.{◌≡◌, ◌<◌, ◌-◌, ◌^◌, ◌∷◌, drop, false, Some, option_map, IsSomeAnd, true, None};
 ghost use Rattle.machine_model.specs.Frames.{entered, level_of, none_stands};
 ghost use Rattle.machine_model.specs.Due.{is_step};
 ghost use Rattle.machine_model.specs.Marks.{reads_result};
 ghost use Rattle.machine_model.specs.Rules.{rule, FrameRuns};
 ghost use Rattle.machine_model.specs.declared.events.What.TheVariants.{Irq};
+ghost use Rattle.kern_base.specs.declared.kinds.Method.TheVariants.{Direct};
 ghost use Rattle.kern_model.specs.Services.{program_serves};
 ghost use Rattle.isr_nesting.specs.Nest.{waiting_at, without_number};
 ghost use Rattle.machine_model.specs.Machine.{Machine as State};

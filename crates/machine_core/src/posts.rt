@@ -1,6 +1,6 @@
 // Where the posts of interrupt code go: into the kernel at once, or into the queue of posts.
 
-ghost use Rattle.std.specs.Prelude.{◌≡◌};
+ghost use Rattle.std.specs.Prelude.{◌≡◌, true, is_none};
 ghost use Rattle.machine_core.specs.Posts.{post_at_once, post_later};
 
 use deferred_queue::DeferredQueue;

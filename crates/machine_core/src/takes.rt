@@ -1,6 +1,6 @@
 // The handler performs the posts that wait, one after another.
 
-ghost use Rattle.std.specs.Prelude.{◌≡◌, ◌&&◌, ◌+◌, ◌<◌, true, None, Some};
+ghost use Rattle.std.specs.Prelude.{ℕ, ◌≡◌, ◌&&◌, ◌+◌, ◌<◌, true, None, Some};
 ghost use Rattle.kern_model.specs.Services.{cost};
 ghost use Rattle.kernel_calls.specs.KernelRecord.{ended, IsOpen};
 ghost use Rattle.kernel_calls.specs.Works.{effect_of, stepped, WorkRecord};
@@ -8,6 +8,7 @@ ghost use Rattle.kern_base.specs.Services.{argument_count};
 ghost use Rattle.machine_model.specs.Answers.{arguments};
 ghost use Rattle.machine_model.specs.Interrupts.{answer_in};
 ghost use Rattle.machine_model.specs.Rules.{rule, rule_in_hand, may_take};
+ghost use Rattle.machine_model.specs.Machine.{TakeOf};
 ghost use Rattle.machine_model.specs.Steps.{some_readied};
 ghost use Rattle.machine_model.specs.declared.events.What.TheVariants.{Take};
 ghost use Rattle.machine_core.specs.Valid.{most_task_steps, change, changed};
@@ -45,7 +46,7 @@ impl<L: Links> Machine<L> {
     // One micro-step of the take in hand, of a post with these arguments and this saved priority.
     pub(crate) fn advance_take(&mut self, service: Service, args: [u32; 4], saved: Prio, line: &mut What)
         requires rule { rule self.old.method self.old.state ≡ rule_in_hand self.old.state.in_hand self.old.state }
-        requires takes { self.old.state.in_hand ≡ None → ⊥ }
+        requires takes { (done : ℕ) × (self.old.state.in_hand ≡ Some (record { work = TakeOf (record { service = service; args = args; saved = saved.0 }); done = done })) }
         requires open_yet { self.old.state.t < most_task_steps }
         requires blank { line.old ≡ What.Quiet }
         ensures line { line.new ≡ (change self.old.method self.old.state).what }
