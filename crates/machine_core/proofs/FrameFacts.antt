@@ -158,7 +158,7 @@ module _ {X : Type 0} (way : Service → List ℕ → X → Answer × X) (kinds 
 
 -- the kernel of a machine, and its queue
 abbrev kernel_of : Machine → KernelRecord
-kernel_of m = record { state = m.kernel; registers = m.registers }
+kernel_of m = record { state = m.kernel; registers = m.registers; hand = None }
 
 abbrev queue_of : Machine → QueueRecord
 queue_of m = record { posts = m.later; size = m.config.defer_size }

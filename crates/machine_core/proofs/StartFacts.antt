@@ -127,11 +127,11 @@ kept-loaded image list a h words l e kinds size =
 
 -- it is loaded part by part
 module _ (image : ImageRecord) (list : ListRecord) (a : Parts) (kernel : a.kernel ≡ start_of image) (ram : a.ram ≡ filled image.ram) (current : a.current.0 ≡ pick a.kernel.state) (frames : a.frames ≡ record { frames = []; waiting = numbered 0 (interrupts_of image list) })
-    (later : a.later ≡ record { posts = []; size = image.config.defer_size }) (kinds : a.kinds ≡ kind_table image) (none : hand_of a.kernel.hand ≡ None) (code : a.program ≡ image.code) (config : a.config ≡ image.config) (no_look : list.looks ≡ []) (begun : a.begun ≡ false) (s : a.s ≡ 0) (t : a.t ≡ 0) where
+    (later : a.later ≡ record { posts = []; size = image.config.defer_size }) (kinds : a.kinds ≡ kind_table image) (code : a.program ≡ image.code) (config : a.config ≡ image.config) (no_look : list.looks ≡ []) (begun : a.begun ≡ false) (s : a.s ≡ 0) (t : a.t ≡ 0) where
   pub loaded : machine_of a ≡ start image list
   loaded =
       let is : interrupts a.frames ≡ interrupts_of image list = interrupts-new (interrupts_of image list) a.frames frames in
-      rw (is, current, kernel, ram, frames, later, none, code, config, no_look, begun, s, t) refl
+      rw (is, current, kernel, ram, frames, later, code, config, no_look, begun, s, t) refl
 
   pub loaded-kept : IsValidImage image → HasWords image → IsValidList image list → IsKept a
   loaded-kept h words l = kept-loaded image list a h words l loaded kinds (ap (λ (q : QueueRecord). q.size) later)

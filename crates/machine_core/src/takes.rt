@@ -13,8 +13,8 @@ ghost use Rattle.machine_model.specs.Steps.{some_readied};
 ghost use Rattle.machine_model.specs.declared.events.What.TheVariants.{Take};
 ghost use Rattle.machine_core.specs.Valid.{most_task_steps, change, changed};
 
-use crate::{Machine, What};
 use crate::tasks::settle;
+use crate::{Machine, What};
 use kern_base::{Answer, OsErr, Outcome, Prio, Service};
 use kernel_calls::{Kernel, Progress};
 use links::Links;
@@ -44,7 +44,13 @@ impl<L: Links> Machine<L> {
     }
 
     // One micro-step of the take in hand, of a post with these arguments and this saved priority.
-    pub(crate) fn advance_take(&mut self, service: Service, args: [u32; 4], saved: Prio, line: &mut What)
+    pub(crate) fn advance_take(
+        &mut self,
+        service: Service,
+        args: [u32; 4],
+        saved: Prio,
+        line: &mut What,
+    )
         requires rule { rule self.old.method self.old.state ≡ rule_in_hand self.old.state.in_hand self.old.state }
         requires takes { (done : ℕ) × (self.old.state.in_hand ≡ Some (record { work = TakeOf (record { service = service; args = args; saved = saved.0 }); done = done })) }
         requires open_yet { self.old.state.t < most_task_steps }

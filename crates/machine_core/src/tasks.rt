@@ -159,7 +159,13 @@ pub(crate) fn settle<L: Links>(kernel: &Kernel<L>, later: &DeferredQueue, curren
 }
 
 // The last micro-step of a call: its answer goes to the caller, or the caller waits.
-fn end<L: Links>(kernel: &mut Kernel<L>, task: TaskId, service: Service, outcome: Outcome, line: &mut What)
+fn end<L: Links>(
+    kernel: &mut Kernel<L>,
+    task: TaskId,
+    service: Service,
+    outcome: Outcome,
+    line: &mut What,
+)
     requires inside { task.0 < 64 }
     requires plain { HasNoTable outcome }
     requires blank { line.old ≡ What.Quiet }
