@@ -17,12 +17,12 @@ ghost use Rattle.ucos_top.specs.Answers.{IsToRun};
 ghost use Rattle.ucos_top.specs.Told.{IsRun, WritesOneHistory};
 
 use crate::history::write_history;
+use crate::machines::{ProgramMachine, load};
 use app_image::Image;
 use arrayvec::ArrayVec;
 use inject_list::InjectList;
 use itoa::Buffer;
 use kern_base::Method;
-use machine_core::Machine;
 use method_premises::Premises;
 use outside::{Failed, Sink};
 use program_model::Status;
@@ -119,8 +119,8 @@ fn write_premises<K: Sink>(watched: &Premises, image: &Image, sink: &mut K) -> R
 // histories, the premises of the deferred run, and the raw steps of both. It answers whether a premise is broken,
 // and takes no memory.
 fn write_both<K: Sink>(
-    direct: Machine,
-    deferred: Machine,
+    direct: ProgramMachine,
+    deferred: ProgramMachine,
     image: &Image,
     count: u32,
     sink: &mut K,
@@ -178,10 +178,10 @@ pub fn compare<K: Sink>(
     ensures one_history { result ≡ Status.Done → WritesOneHistory (K.held sink.old) (K.held sink.new) }
 {
     histories_agree(image, list, count);
-    let Ok(direct) = Machine::load(alloc, image, list, Method::Direct) else {
+    let Ok(direct) = load(alloc, image, list, Method::Direct) else {
         return Status::NoMemory;
     };
-    let Ok(deferred) = Machine::load(alloc, image, list, Method::Deferred) else {
+    let Ok(deferred) = load(alloc, image, list, Method::Deferred) else {
         return Status::NoMemory;
     };
     match write_both(direct, deferred, image, count, sink) {

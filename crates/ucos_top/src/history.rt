@@ -10,9 +10,10 @@ ghost use Rattle.machine_model.specs.Premises.{premises};
 ghost use Rattle.program_model.specs.Both.{run_of};
 ghost use Rattle.program_model.specs.Limits.{most_task_steps};
 
+use crate::machines::ProgramMachine;
 use app_image::Image;
 use arrayvec::ArrayVec;
-use machine_core::{Event, Machine, What};
+use machine_core::{Event, What};
 use method_premises::Premises;
 use outside::{Failed, Sink};
 use run_printer::{end_of_history, history_of};
@@ -40,7 +41,7 @@ fn write_lines<K: Sink>(lines: &ArrayVec<u8, 512>, sink: &mut K) -> Result<(), F
 /// Writes the task history of a machine at its start with some injections, to so many task steps, and keeps the
 /// premises. It takes no memory.
 pub fn write_history<K: Sink>(
-    mut machine: Machine,
+    mut machine: ProgramMachine,
     image: &Image,
     count: u32,
     sink: &mut K,

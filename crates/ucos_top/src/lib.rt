@@ -7,6 +7,7 @@ mod causes;
 mod ends;
 mod history;
 mod listing;
+mod machines;
 mod reading;
 mod text;
 mod top;

@@ -10,9 +10,10 @@ ghost use Rattle.machine_model.specs.Text.{IsPrintable, event_text};
 ghost use Rattle.program_model.specs.Answer.{printed};
 ghost use Rattle.program_model.specs.Limits.{most_task_steps};
 
+use crate::machines::ProgramMachine;
 use app_image::Image;
 use arrayvec::ArrayVec;
-use machine_core::{Event, Machine, What};
+use machine_core::{Event, What};
 use outside::{Failed, Sink};
 use run_printer::{end_of_run, line_of};
 
@@ -45,7 +46,7 @@ fn write_event<K: Sink>(
 /// Writes the printed run of a machine at its start with some injections, to so many task steps. It
 /// takes no memory.
 pub fn write_run<K: Sink>(
-    mut machine: Machine,
+    mut machine: ProgramMachine,
     image: &Image,
     count: u32,
     sink: &mut K,

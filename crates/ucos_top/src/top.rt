@@ -14,13 +14,13 @@ use crate::both::compare;
 use crate::case::read_case;
 use crate::causes::{CaseError, refusal_line};
 use crate::listing::write_listing;
+use crate::machines::load;
 use crate::reading::{InputError, read_input};
 use crate::text::write_run;
 use crate::words::command_of;
 use app_image::{Image, write_image};
 use inject_list::InjectList;
 use kern_base::Method;
-use machine_core::Machine;
 use outside::{Failed, Sink, Source};
 use program_model::{CaseCause, Command, Status};
 use std::alloc::Global;
@@ -189,7 +189,7 @@ fn run_case<K: Sink>(
     ensures write_fault_text { result ≡ Status.WriteFault → AppendsPrefix (K.held sink.old) (K.held sink.new) (printed method image.now list.now count) }
     ensures whole_text { result ≡ Status.Done → Appends (K.held sink.old) (K.held sink.new) (printed method image.now list.now count) }
 {
-    match Machine::load(alloc, image, list, method) {
+    match load(alloc, image, list, method) {
         Ok(machine) => ending(write_run(machine, image, count, sink)),
         Err(_) => Status::NoMemory,
     }
