@@ -1,8 +1,10 @@
 -- What keeps it true that semaphores alone are served.
-use Rattle.std.proofs.Common.{◌≡◌, ℕ, ◌<◌, List, [], ◌∷◌, get_or, refl, sym, subst, false}
+use Rattle.std.proofs.Common.{◌≡◌, ℕ, inl, inr, not, arith, ◌<◌, List, [], ◌∷◌, get_or, refl, sym, ap, ◌∙◌, subst, Bool, true, false, Option, Some, None}
+use Rattle.std.specs.Prelude.{◌&&◌, if◌then◌else◌}
 use Rattle.std.proofs.lemmas.Bool.{true≢false}
+use Rattle.std.proofs.lemmas.Bool.Decides.{eqb_tells, leb_tells}
 use Rattle.kern_base.specs.declared.services.Service.{Service}
-use Rattle.kern_base.specs.declared.services.Service.TheVariants.{SemPost}
+use Rattle.kern_base.specs.declared.services.Service.TheVariants.{SemPost, SemPend}
 use Rattle.kern_base.specs.declared.requests.Request.{Request}
 use Rattle.kern_base.specs.declared.outcomes.Answer.{Answer}
 use Rattle.kern_base.specs.declared.outcomes.Decision.{Decision}
@@ -10,13 +12,13 @@ use Rattle.kern_base.specs.declared.outcomes.Decision.TheVariants.{Done, Block, 
 use Rattle.kern_base.specs.declared.outcomes.Who.TheVariants.{First, All, Matching}
 use Rattle.kern_base.specs.declared.outcomes.Waiting.{Waiting}
 use Rattle.kern_base.specs.declared.outcomes.Waiting.TheVariants.{No, Delay, Obj, TaskSem, TaskQ, Multi, Signal}
-use Rattle.kern_model.specs.State.{Kernel, Task, no_task, task_at, update_task, waits_for_nothing}
+use Rattle.kern_model.specs.State.{Kernel, Task, no_task, task_at, update_task, is_zero, waits_for_nothing}
 use Rattle.kern_model.specs.Effect.{Effect, answered_task, blocked, chosen, posted_to, waiting_task, wakes, wakes_all}
-use Rattle.kern_model.specs.Valid.{AllWait}
-use Rattle.kern_model.proofs.Lemmas.{AllWait-chosen, AllWait-wakes, update_task_at}
+use Rattle.kern_model.specs.Valid.{AllWait, IsLinked}
+use Rattle.kern_model.proofs.Lemmas.{AllWait-chosen, AllWait-wakes, and_first, and_second, update_task_at}
 use Rattle.decisions.specs.Decided.{decided, ending_of, handed, handed_result, wait_of}
 use Rattle.kernel_records.specs.Deciding.{IsServedDecision, own_change}
-use Rattle.kernel_records.specs.Concluding.{handing}
+use Rattle.kernel_records.specs.Concluding.{handing, IsSingle}
 use Rattle.kernel_records.specs.Served.{IsServed, IsServedFinished, IsServedResult, IsServedWait}
 use Rattle.kernel_records.proofs.ConcludingFacts.{plain-wait, plain-wake}
 use Rattle.kernel_records.proofs.DecidingFacts.{own-none}
@@ -62,3 +64,54 @@ served-decided (Wake All) r x h xs k d w s =
     subst (λ (j : Kernel). IsServed (decided (Wake All) r.service r x h xs j).kernel) (sym (own-none r (Wake All) k refl))
     (subst (λ (e : Effect). IsServed e.kernel) (sym (plain-wake r.service _ _ d)) (served-wakes r h xs k d w s))
 served-decided (Wake Matching) r x h xs k d w s = absurd d
+
+-- No task waits for several objects.
+single-idle : (w : Waiting) → waits_for_nothing w ≡ true → IsSingle w
+single-idle No h = tt
+single-idle Delay h = tt
+single-idle (Obj s) h = tt
+single-idle TaskSem h = tt
+single-idle TaskQ h = tt
+single-idle Multi h = absurd (true≢false (sym h))
+single-idle Signal h = tt
+
+single-served : (w : Waiting) → IsServedWait w → IsSingle w
+single-served No h = tt
+single-served Delay h = tt
+single-served (Obj s) h = tt
+single-served TaskSem h = tt
+single-served TaskQ h = tt
+single-served Multi h = h
+single-served Signal h = tt
+
+single-if : (b : Bool) → IsSingle (if b then Signal else No)
+single-if true = tt
+single-if false = tt
+
+-- who does not live, does not wait
+idle-dead : (b : Bool) (t : Task) → waits_for_nothing t.waiting ≡ b → (waits_for_nothing t.waiting ≡ false → t.alive ≡ true) → t.alive ≡ false → waits_for_nothing t.waiting ≡ true
+idle-dead true t e lives dead = e
+idle-dead false t e lives dead = absurd (true≢false (sym (lives e) ∙ dead))
+
+pub all-single : (k : Kernel) → IsLinked k → IsServed k → (x : ℕ) → x < 64 → IsSingle (task_at k x).waiting
+all-single k v s x h =
+    elim (leb_tells 60 x) [
+      | inr d ↦ single-served (task_at k x).waiting (s.waits x d.1)
+      | inl d ↦
+          elim (eqb_tells 60 x) [
+            | inl e ↦ subst (λ y. IsSingle (task_at k y).waiting) e.1 (subst IsSingle (sym v.internal.tick_waits) (single-if (is_zero k.tick_signals)))
+            | inr n ↦
+                elim (eqb_tells 61 x) [
+                  | inl e ↦ subst (λ y. IsSingle (task_at k y).waiting) e.1 (subst IsSingle (sym v.internal.timer_waits) (single-if (is_zero k.timer_signals && not k.processing)))
+                  | inr m ↦
+                      elim (eqb_tells 62 x) [
+                        | inl e ↦
+                            subst (λ y. IsSingle (task_at k y).waiting) e.1
+                            (single-idle (task_at k 62).waiting (and_first (waits_for_nothing (task_at k 62).waiting) (is_zero (task_at k 62).suspended) (and_second (task_at k 62).alive (waits_for_nothing (task_at k 62).waiting && is_zero (task_at k 62).suspended) v.internal.idle)))
+                        | inr p ↦
+                            let last : x ≡ 63 = omega (arith, h, d.1, n.1, m.1, p.1) in
+                            subst (λ y. IsSingle (task_at k y).waiting) (sym last) (single-idle (task_at k 63).waiting (idle-dead (waits_for_nothing (task_at k 63).waiting) (task_at k 63) refl (v.tasks.each_task 63).lives v.internal.handler))
+                      ]
+                ]
+          ]
+    ]

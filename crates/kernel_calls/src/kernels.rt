@@ -1,6 +1,6 @@
 // The kernel.
 
-ghost use Rattle.std.specs.Prelude.{◌≡◌, ◌<◌, true, false, Some, None, List, length, map, slice_set, slice_index_or, MatchOption};
+ghost use Rattle.std.specs.Prelude.{◌≡◌, ◌<◌, true, false, Some, None, List, length, map, slice_set, slice_index_or, is_none, MatchOption};
 ghost use Rattle.kern_model.specs.State.{Task, task_at, pick, is_ready, kinds_of};
 ghost use Rattle.micro_steps.specs.Halfway.{seen};
 ghost use Rattle.kern_model.specs.Valid.{IsLinked, has_result};
@@ -56,6 +56,13 @@ impl<L: Links> Kernel<L> {
         ensures { MatchOption result (self.now.hand ≡ None) (λ work. self.now.hand ≡ Some work.now) }
     {
         if self.busy { Some(&self.work) } else { None }
+    }
+
+    /// Whether no whole step is in hand.
+    pub fn is_free(&self) -> bool
+        ensures { result ≡ is_none self.now.hand }
+    {
+        !self.busy
     }
 
     /// The task that the scheduler picks, where nothing is in hand: the first ready task of the highest priority.

@@ -10,3 +10,9 @@ pub mod MoveFacts
 pub mod MoveSeen
 pub mod Rewaits
 pub mod MovesHold
+pub mod RenewalFits
+pub mod Follows
+pub mod ToldFacts
+pub mod CallTells
+pub mod CallRenews
+pub mod MovesWritten

@@ -1,14 +1,13 @@
 -- What a link of a waiting task does to the kernel's lists of tasks, and which waiters it passes.
-use Rattle.std.proofs.Common.{◌≡◌, ℕ, zero, suc, ◌+◌, ◌/◌, ◌<◌, ◌≤◌, List, [], ◌∷◌, length, take, map, insert, refl, sym, ap, ◌∙◌, Bool, true, false, arith}
+use Rattle.std.proofs.Common.{◌≡◌, ℕ, zero, suc, ◌/◌, ◌<◌, List, [], ◌∷◌, length, take, map, insert, refl, sym, ap, ◌∙◌, Bool, true, false, arith}
 use Rattle.std.specs.Prelude.{slice_set, nat_le, if◌then◌else◌}
 use Rattle.std.proofs.lemmas.List.{map-set}
 use Rattle.std.proofs.lemmas.List.Sums.{take_while-cons}
 use Rattle.kern_model.specs.State.{count_of}
-use Rattle.kern_model.specs.Micro.{Lists, wait_place}
+use Rattle.kern_model.specs.Micro.{wait_place}
 use Rattle.links.specs.Chain.{times, list_at, inserted, left, without}
-use Rattle.links.proofs.Times.{times_here, times-le}
 use Rattle.pend_lists.proofs.Tasks.{map-inserted, map-without}
-use Rattle.micro_steps.specs.Halfway.{tasks_in, seen_lists}
+use Rattle.micro_steps.specs.Halfway.{tasks_in}
 use Rattle.micro_steps.proofs.Seen.{list_at-tasks}
 use Rattle.link_plans.proofs.WakeFits.{counted}
 

@@ -1,13 +1,13 @@
 -- The links of moves fit, are the blocks of their definition, and end with the lists of the kernel after the moves.
-use Rattle.std.proofs.Common.{◌≡◌, ◌≢◌, ◌⊎◌, ℕ, zero, suc, ◌+◌, ◌*◌, ◌/◌, ◌<◌, ◌≤◌, Bool, true, false, List, [], ◌∷◌, ◌++◌, length, map, take, refl, sym, ap, ◌∙◌, subst, arith, inl, inr, length-set, get_or-set_other}
-use Rattle.std.specs.Prelude.{All, ◌==◌, ◌&&◌, if◌then◌else◌}
+use Rattle.std.proofs.Common.{◌≡◌, ◌≢◌, ℕ, ◌+◌, ◌*◌, ◌/◌, ◌<◌, ◌≤◌, Bool, true, false, List, [], ◌∷◌, ◌++◌, length, map, take, refl, sym, ap, ◌∙◌, subst, arith, inl, inr, get_or-set_other}
+use Rattle.std.specs.Prelude.{◌==◌, ◌&&◌, if◌then◌else◌}
 use Rattle.std.proofs.Math.Nat.{not-suc-le-zero}
 use Rattle.std.proofs.lemmas.Bool.{true≢false}
 use Rattle.std.proofs.lemmas.Bool.Decides.{eqb_tells}
 use Rattle.kern_base.specs.declared.numbers.Prio.{Prio}
 use Rattle.kern_model.specs.State.{Kernel, Task, task_at, task_in, prio_of, place_of, count_of, is_ready, is_zero, waits_for_nothing}
 use Rattle.kern_model.specs.Micro.{Block, Halves, Lists, after, in_order, lists_of}
-use Rattle.kern_model.specs.Inherit.{moved, moved_all, moved_ready, rewaited, ready_move_blocks, rewait_blocks, move_blocks, moves_blocks, waited_objects, with_prio}
+use Rattle.kern_model.specs.Inherit.{moved, moved_all, moved_ready, rewaited, ready_move_blocks, rewait_blocks, move_blocks, moves_blocks, with_prio}
 use Rattle.kern_model.specs.Valid.{IsLinked, one_if}
 use Rattle.kern_model.proofs.Basics.Updates.{update_task_same, task-updated, task-other}
 use Rattle.kern_model.proofs.Lists.Members.{list-same}
@@ -19,38 +19,34 @@ use Rattle.kern_model.proofs.Linked.Wakes.{self_equal}
 use Rattle.links.specs.Chain.{times, total, list_at, left, without}
 use Rattle.links.proofs.Steps.{times-without}
 use Rattle.micro_steps.specs.declared.link.Link.{Link}
-use Rattle.micro_steps.specs.declared.link.Link.TheVariants as link
 use Rattle.micro_steps.specs.Blocks.{prio_in, place_at}
 use Rattle.micro_steps.specs.Halfway.{tasks_in, seen_lists}
 use Rattle.micro_steps.specs.Whole.{AreFit, lists_after, prios_after, task_block, task_blocks}
 use Rattle.micro_steps.proofs.Seen.{list_at-tasks, list_at-take}
 use Rattle.link_plans.specs.declared.moves.Move.{Move}
 use Rattle.link_plans.specs.declared.moves.Standing.TheVariants.{Ready, Waits, Nowhere}
-use Rattle.link_plans.specs.Moves.{standing_links, standing_of, move_links, moves_links, move_in, rewait_links}
+use Rattle.link_plans.specs.Moves.{standing_links, standing_of, move_links, moves_links, move_in}
+use Rattle.link_plans.specs.Renewals.{TellWaiters, prios_past}
 use Rattle.link_plans.specs.Fits.{AreKernels, IsNoded}
 use Rattle.link_plans.proofs.BlockFits.{no_wait}
 use Rattle.link_plans.proofs.WakeFits.{counted}
 use Rattle.link_plans.proofs.NodeLaws.{times-count, total-none, node_of, object_below}
 use Rattle.link_plans.proofs.Past.{links_keep}
-use Rattle.link_plans.proofs.Rewaits.{prios_all, Stands, rewaits}
+use Rattle.link_plans.proofs.Rewaits.{Stands, rewaits}
 
 -- links one after the other
 
-pub fits-append : (n : ℕ) (prios : List Prio) (ks js : List Link) (l : Lists) → AreFit n prios ks l → AreFit n (prios_all prios ks) js (lists_after prios ks l) → AreFit n prios (ks ++ js) l
+pub fits-append : (n : ℕ) (prios : List Prio) (ks js : List Link) (l : Lists) → AreFit n prios ks l → AreFit n (prios_past prios ks) js (lists_after prios ks l) → AreFit n prios (ks ++ js) l
 fits-append n prios [] js l first rest = rest
 fits-append n prios (k ∷ ks) js l first rest = (first.0, fits-append n (prios_after k prios) ks js _ first.1 rest)
 
-pub lists-append : (prios : List Prio) (ks js : List Link) (l : Lists) → lists_after prios (ks ++ js) l ≡ lists_after (prios_all prios ks) js (lists_after prios ks l)
+pub lists-append : (prios : List Prio) (ks js : List Link) (l : Lists) → lists_after prios (ks ++ js) l ≡ lists_after (prios_past prios ks) js (lists_after prios ks l)
 lists-append prios [] js l = refl
 lists-append prios (k ∷ ks) js l = lists-append (prios_after k prios) ks js _
 
-pub blocks-append : (prios : List Prio) (ks js : List Link) → task_blocks prios (ks ++ js) ≡ task_blocks prios ks ++ task_blocks (prios_all prios ks) js
+pub blocks-append : (prios : List Prio) (ks js : List Link) → task_blocks prios (ks ++ js) ≡ task_blocks prios ks ++ task_blocks (prios_past prios ks) js
 blocks-append prios [] js = refl
 blocks-append prios (k ∷ ks) js = ap (λ bs. task_block (prios_after k prios) k ∷ bs) (blocks-append (prios_after k prios) ks js)
-
--- the priorities of those that wait for objects are the kernel's
-abbrev pub TellWaiters : List Prio → Kernel → Type 0
-TellWaiters prios k = (o y : ℕ) → 0 < count_of y (list_at k.pend o) → prio_in prios y ≡ prio_of k y
 
 -- One task x goes to priority p.
 module _ (tail : Bool) (x p : ℕ) (k : Kernel) (l : Lists) (prios : List Prio) (v : IsLinked k) (same : AreKernels k l) (tells : TellWaiters prios k) (small : x < 62) (to : p ≤ 62) (long : x < length prios) where
@@ -78,9 +74,9 @@ module _ (tail : Bool) (x p : ℕ) (k : Kernel) (l : Lists) (prios : List Prio) 
     pub blocks : in_order (task_blocks prios (links_moved b c os)) (lists_of k) ≡ in_order (blocks_moved b c) (lists_of k)
     pub seen : seen_lists n (lists_after prios (links_moved b c os) l) ≡ lists_moved b c
     pub noded : IsNoded k.tasks (lists_after prios (links_moved b c os) l).pend
-    pub others : (y : ℕ) → (y ≡ x → ⊥) → prio_in (prios_all prios (links_moved b c os)) y ≡ prio_in prios y
-    pub mine : 0 < length (if c then [] else t.objects) → prio_in (prios_all prios (links_moved b c os)) x ≡ p
-    pub size : length (prios_all prios (links_moved b c os)) ≡ length prios
+    pub others : (y : ℕ) → (y ≡ x → ⊥) → prio_in (prios_past prios (links_moved b c os)) y ≡ prio_in prios y
+    pub mine : 0 < length (if c then [] else t.objects) → prio_in (prios_past prios (links_moved b c os)) x ≡ p
+    pub size : length (prios_past prios (links_moved b c os)) ≡ length prios
 
   ready_is : l.ready ≡ k.ready
   ready_is = ap (λ (a : Lists). a.ready) same.lists
@@ -93,10 +89,10 @@ module _ (tail : Bool) (x p : ℕ) (k : Kernel) (l : Lists) (prios : List Prio) 
   left_ready : is_ready t ≡ true → total x (left l.ready t.prio x) ≡ 0
   left_ready b =
       total-none x (left l.ready t.prio x) (λ r.
-          elim (eqb_tells t.prio r) [
-            | inl e ↦ subst (λ q. times x (list_at (left l.ready t.prio x) q) ≡ 0) e.1 (ap (times x) (list-same (without x) refl l.ready t.prio) ∙ times-without x (list_at l.ready t.prio))
-            | inr e ↦ ap (times x) (get_or-set_other l.ready t.prio r (without x (list_at l.ready t.prio)) [] (λ d. e.1 (sym d))) ∙ elsewhere r e.0
-          ])
+      elim (eqb_tells t.prio r) [
+        | inl e ↦ subst (λ q. times x (list_at (left l.ready t.prio x) q) ≡ 0) e.1 (ap (times x) (list-same (without x) refl l.ready t.prio) ∙ times-without x (list_at l.ready t.prio))
+        | inr e ↦ ap (times x) (get_or-set_other l.ready t.prio r (without x (list_at l.ready t.prio)) [] (λ d. e.1 (sym d))) ∙ elsewhere r e.0
+      ])
     where
       elsewhere : (r : ℕ) → (t.prio == r) ≡ false → times x (list_at l.ready r) ≡ 0
       elsewhere r e =
@@ -199,7 +195,7 @@ module _ (ts : List Task) (prios : List Prio) (tail : Bool) (m : ℕ × ℕ) (ms
   l_first = lists_after prios first l
 
   abbrev prios_first : List Prio
-  prios_first = prios_all prios first
+  prios_first = prios_past prios first
 
   is_low : x < 62
   is_low = elim h.movable.0 [ inl e ↦ omega arith | inr e ↦ omega (arith, e) ]

@@ -1,5 +1,5 @@
 -- Past the kernel's objects nobody waits, also after links that fit.
-use Rattle.std.proofs.Common.{◌≡◌, ◌≢◌, ℕ, ◌+◌, ◌/◌, ◌<◌, ◌≤◌, List, [], ◌∷◌, sym, ap, ◌∙◌, subst, arith, get_or-set_other}
+use Rattle.std.proofs.Common.{◌≡◌, ◌≢◌, ℕ, ◌<◌, ◌≤◌, List, [], ◌∷◌, sym, ap, ◌∙◌, subst, arith, get_or-set_other}
 use Rattle.std.specs.Prelude.{insert}
 use Rattle.std.proofs.Math.Nat.{not-suc-le-zero}
 use Rattle.kern_base.specs.declared.numbers.Prio.{Prio}

@@ -1,12 +1,12 @@
 -- A task that waits leaves each of its objects and joins it again at another priority.
-use Rattle.std.proofs.Common.{◌≡◌, ◌≢◌, ℕ, zero, suc, ◌+◌, ◌*◌, ◌/◌, ◌<◌, ◌≤◌, Bool, true, false, ◌⊎◌, List, [], ◌∷◌, ◌++◌, length, map, take, insert, refl, sym, ap, ◌∙◌, subst, arith, inl, inr, append_assoc, length-set, get_or-set_same, get_or-set_other}
+use Rattle.std.proofs.Common.{◌≡◌, ◌≢◌, ℕ, suc, ◌+◌, ◌*◌, ◌/◌, ◌<◌, ◌≤◌, Bool, true, false, ◌⊎◌, List, [], ◌∷◌, ◌++◌, length, map, take, insert, refl, sym, ap, ◌∙◌, subst, arith, inl, inr, append_assoc, length-set, get_or-set_same, get_or-set_other}
 use Rattle.std.specs.Prelude.{slice_set, replicate, All, ◌==◌, if◌then◌else◌}
 use Rattle.std.proofs.Math.Nat.{not-suc-le-zero}
 use Rattle.std.proofs.lemmas.Bool.Decides.{eqb_tells, leb_tells}
 use Rattle.std.proofs.lemmas.List.{length-append}
 use Rattle.kern_base.specs.declared.numbers.Prio.{Prio}
 use Rattle.kern_model.specs.State.{Task, task_in, place_of, count_of, update_list}
-use Rattle.kern_model.specs.Micro.{Block, Halves, JoinBack, JoinForward, Lists, Pend, Plain, after, in_order, leave, wait, wait_place}
+use Rattle.kern_model.specs.Micro.{Halves, JoinBack, JoinForward, Lists, Pend, Plain, after, in_order, leave, wait, wait_place}
 use Rattle.kern_model.specs.Inherit.{rewait_blocks, rewaited}
 use Rattle.kern_model.proofs.Basics.Choices.{equal}
 use Rattle.kern_model.proofs.Lists.Members.{list-same}
@@ -18,24 +18,18 @@ use Rattle.links.proofs.Times.{times_other}
 use Rattle.links.proofs.Steps.{times-without, times-without-le}
 use Rattle.pend_lists.specs.Pending.{IsAbsent, waiters}
 use Rattle.pend_lists.proofs.Tasks.{times_waited}
-use Rattle.micro_steps.specs.declared.link.Link.{Link}
-use Rattle.micro_steps.specs.declared.link.Link.TheVariants as link
 use Rattle.micro_steps.specs.Blocks.{prio_in, prio_by, no_prio}
 use Rattle.micro_steps.specs.Halfway.{tasks_in, seen_lists}
-use Rattle.micro_steps.specs.Whole.{AreFit, lists_after, prios_after, task_blocks}
+use Rattle.micro_steps.specs.Whole.{AreFit, lists_after, task_blocks}
 use Rattle.micro_steps.proofs.Seen.{list_at-tasks, list_at-take}
 use Rattle.link_plans.specs.Moves.{rewait_links}
+use Rattle.link_plans.specs.Renewals.{prios_past}
 use Rattle.link_plans.specs.Fits.{IsNoded}
 use Rattle.link_plans.proofs.BlockFits.{waited}
 use Rattle.link_plans.proofs.WakeFits.{counted}
-use Rattle.link_plans.proofs.NodeLaws.{count-append, place_after, times-count, total-none, object_below}
+use Rattle.link_plans.proofs.NodeLaws.{count-append, place_after, total-none, object_below}
 use Rattle.link_plans.proofs.NodeKeeps.{times-left-le, times-inserted-le}
 use Rattle.link_plans.proofs.MoveSeen.{seen-left, seen-inserted, place-nodes, place-same}
-
--- the priorities after links
-abbrev pub prios_all : List Prio → List Link → List Prio
-prios_all prios [] = prios
-prios_all prios (k ∷ ks) = prios_all (prios_after k prios) ks
 
 -- only one object stands at a place
 both : (b c : Bool) (m n : ℕ) → (if b then 0 else 1 + m) ≡ (if c then 0 else 1 + n) → ((b ≡ true) × (c ≡ true)) ⊎ ((b ≡ false) × (c ≡ false) × (m ≡ n))
@@ -105,10 +99,10 @@ module _ (n : ℕ) (ts : List Task) (x p : ℕ) (prio : ℕ → ℕ) (most : n �
     nowhere : total node gone.pend ≡ 0
     nowhere =
         total-none node gone.pend (λ r.
-            elim (eqb_tells r o) [
-              | inl e ↦ subst (λ q. times node (list_at gone.pend q) ≡ 0) (sym e.1) (ap (times node) gone_at ∙ times-without node (list_at l.pend o))
-              | inr e ↦ ap (times node) (get_or-set_other l.pend o r (without node (list_at l.pend o)) [] e.1) ∙ elsewhere r e.1
-            ])
+        elim (eqb_tells r o) [
+          | inl e ↦ subst (λ q. times node (list_at gone.pend q) ≡ 0) (sym e.1) (ap (times node) gone_at ∙ times-without node (list_at l.pend o))
+          | inr e ↦ ap (times node) (get_or-set_other l.pend o r (without node (list_at l.pend o)) [] e.1) ∙ elsewhere r e.1
+        ])
       where
         elsewhere : (r : ℕ) → (r ≡ o → ⊥) → times node (list_at l.pend r) ≡ 0
         elsewhere r far =
@@ -257,9 +251,9 @@ module _ (n : ℕ) (ts : List Task) (x p : ℕ) (prio : ℕ → ℕ) (most : n �
     pub blocks : in_order (task_blocks prios (rewait_links x p i os)) t ≡ in_order (rewait_blocks prio x p os) t
     pub seen : seen_lists n (lists_after prios (rewait_links x p i os) l) ≡ lists_rewaited os t
     pub noded : IsNoded ts (lists_after prios (rewait_links x p i os) l).pend
-    pub others : (y : ℕ) → (y ≡ x → ⊥) → prio_in (prios_all prios (rewait_links x p i os)) y ≡ prio_in prios y
-    pub mine : (prio_in prios x ≡ p) ⊎ (0 < length os) → prio_in (prios_all prios (rewait_links x p i os)) x ≡ p
-    pub long : length (prios_all prios (rewait_links x p i os)) ≡ length prios
+    pub others : (y : ℕ) → (y ≡ x → ⊥) → prio_in (prios_past prios (rewait_links x p i os)) y ≡ prio_in prios y
+    pub mine : (prio_in prios x ≡ p) ⊎ (0 < length os) → prio_in (prios_past prios (rewait_links x p i os)) x ≡ p
+    pub long : length (prios_past prios (rewait_links x p i os)) ≡ length prios
 
   pub rewaits : (prios : List Prio) (i : ℕ) (front os : List ℕ) (l t : Lists) → front ++ os ≡ all → length front ≡ i → Stands prios os l t → Rewaited prios i os l t
   rewaits prios i front [] l t parts at s =

@@ -1,5 +1,5 @@
 -- The links of moves: tasks go to other priorities, one after another.
-use Rattle.std.specs.Prelude.{ℕ, ◌+◌, ◌*◌, Bool, true, false, List, [], ◌∷◌, ◌++◌, drop, if◌then◌else◌}
+use Rattle.std.specs.Prelude.{ℕ, ◌+◌, ◌*◌, Bool, List, [], ◌∷◌, ◌++◌, drop, if◌then◌else◌}
 use Rattle.kern_model.specs.State.{Kernel, Task, task_at, task_in, prio_of, is_ready, waits_for_nothing}
 use Rattle.micro_steps.specs.declared.link.Link.{Link}
 use Rattle.micro_steps.specs.declared.link.Link.TheVariants as link

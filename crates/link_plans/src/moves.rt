@@ -1,13 +1,24 @@
 // Tasks that go to other priorities, one after another.
 
-ghost use Rattle.std.specs.Prelude.{◌≡◌, ◌<◌, ◌≤◌, ◌∷◌, [], drop, length, All, IsSome, MatchOption, slice_get, take};
+ghost use Rattle.std.specs.Prelude.{◌≡◌, ◌<◌, ◌≤◌, ◌∷◌, ◌++◌, [], drop, length, All, IsSome, MatchOption, slice_get, take};
+ghost use Rattle.kern_model.specs.State.{Kernel};
 ghost use Rattle.link_plans.specs.Moves.{links_of_moves, move_links, rewait_links};
+ghost use Rattle.link_plans.specs.Told.{AreTold, move_told};
+ghost use Rattle.link_plans.specs.Renewals.{renewal_moves};
 
 use arrayvec::ArrayVec;
 use kern_base::{ObjId, Prio, TaskId};
 use micro_steps::Link;
 use pend_lists::node_of;
 use tcb_pool::{Tcb, Tcbs};
+
+// Application tasks have the numbers below this.
+const APPLICATIONS: u8 = 60;
+
+const TIMER: TaskId = TaskId(61);
+
+// The idle task's priority.
+const IDLE: Prio = Prio(63);
 
 /// In which lists a task stands.
 #[derive(Clone, Copy, Debug, PartialEq, Eq)]
@@ -29,6 +40,18 @@ pub struct Move {
     pub standing: Standing,
 }
 
+/// No move: what stands in the free room of a vector of moves.
+impl Default for Move {
+    fn default() -> Self {
+        Move {
+            task: TaskId(0),
+            from: IDLE,
+            to: IDLE,
+            standing: Standing::Nowhere,
+        }
+    }
+}
+
 /// Tasks that move, and how far their links are made.
 #[derive(Drop)]
 pub struct Moves {
@@ -43,6 +66,58 @@ pub struct Moves {
 }
 
 impl Moves {
+    /// Takes the moves by which priorities are renewed: of each living application task, and of the timer task, whose inherited
+    /// priority is not its present one, in rising number. `inherited` has the inherited priorities of all tasks after the call,
+    /// `standings` where each stands that lives then.
+    pub fn renew(
+        &mut self,
+        tasks: &Tcbs,
+        inherited: &[Prio; 64],
+        standings: &[Option<Standing>; 64],
+        tail: bool,
+    )
+        ensures moves { (k : Kernel) → AreTold tasks.now.tasks inherited.now standings.now k → self.new.moves.items ≡ renewal_moves k }
+        ensures movers { All (λ m. m.task.0 < 64) self.new.moves.items }
+        ensures fresh { (self.new.tail ≡ tail) × (self.new.task ≡ 0) × (self.new.made ≡ 0) }
+    {
+        self.moves.clear();
+        self.tail = tail;
+        self.task = 0;
+        self.made = 0;
+        for task in 0..APPLICATIONS {
+            self.add(TaskId(task), tasks, inherited, standings);
+        }
+        self.add(TIMER, tasks, inherited, standings);
+    }
+
+    // Takes the move of a task, if it lives and its inherited priority is not its present one.
+    fn add(
+        &mut self,
+        task: TaskId,
+        tasks: &Tcbs,
+        inherited: &[Prio; 64],
+        standings: &[Option<Standing>; 64],
+    )
+        requires task { task.0 < 64 }
+        requires room { length self.old.moves.items < 61 }
+        ensures moves { self.new.moves.items ≡ self.old.moves.items ++ move_told tasks.now.tasks inherited.now standings.now task.0 }
+        ensures kept { (self.new.tail ≡ self.old.tail) × (self.new.task ≡ self.old.task) × (self.new.made ≡ self.old.made) }
+    {
+        let Some(standing) = standings[task.0 as usize] else {
+            return;
+        };
+        let from = tasks.get(task).prio;
+        let to = inherited[task.0 as usize];
+        if to != from {
+            self.moves.push(Move {
+                task,
+                from,
+                to,
+                standing,
+            });
+        }
+    }
+
     /// The next link. None exactly where none is left.
     pub fn next_link(&mut self, tasks: &Tcbs) -> Option<Link>
         requires { All (λ m. m.task.0 < 64) self.old.moves.items }

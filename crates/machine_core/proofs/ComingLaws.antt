@@ -11,7 +11,7 @@ use Rattle.machine_model.specs.Due.{Place, due, taken_at}
 use Rattle.isr_nesting.specs.Nest.{IsRising, due_number, interrupts, number_at, waiting_at, without_number}
 use Rattle.isr_nesting.proofs.EnterLaws.{MayEnter, due-enters}
 use Rattle.kernel_calls.specs.Works.{WorkRecord}
-use Rattle.machine_core.specs.declared.machine.Machine.TheInside.{Inside}
+use Rattle.machine_core.specs.MachineView.{Parts}
 use Rattle.machine_model.specs.Machine.{Machine, WholeStep}
 use Rattle.machine_model.specs.Settling.{is_free}
 use Rattle.machine_model.specs.Rules.{Enters, FrameLimit, FrameRuns, rule, rule_of_due, rule_of_frames, is_masked, is_quiet, may_take}
@@ -30,20 +30,20 @@ masked-is Deferred true hand e = refl
 masked-is Deferred false hand e = refl
 
 -- what is due is asked for by whether nothing is in hand, and whether a post can be taken
-due-asked : (a : Inside) (free : Bool) → free ≡ is_none a.in_hand → due (is_masked a.method (hand_of a.in_hand)) (is_quiet (machine_of a)) a.s a.t a.frames.frames (interrupts a.frames) ≡ due (not free && is_direct a.method) (free && not (may_take (machine_of a))) a.s a.t a.frames.frames (interrupts a.frames)
+due-asked : (a : Parts) (free : Bool) → free ≡ is_none a.kernel.hand → due (is_masked a.method (hand_of a.kernel.hand)) (is_quiet (machine_of a)) a.s a.t a.frames.frames (interrupts a.frames) ≡ due (not free && is_direct a.method) (free && not (may_take (machine_of a))) a.s a.t a.frames.frames (interrupts a.frames)
 due-asked a free e =
-    let same : is_free (hand_of a.in_hand) ≡ free = free-is a.in_hand ∙ sym e in
-    ap (λ (b : Bool). due (is_masked a.method (hand_of a.in_hand)) (b && not (may_take (machine_of a))) a.s a.t a.frames.frames (interrupts a.frames)) same
-    ∙ ap (λ (b : Bool). due b (free && not (may_take (machine_of a))) a.s a.t a.frames.frames (interrupts a.frames)) (masked-is a.method free (hand_of a.in_hand) same)
+    let same : is_free (hand_of a.kernel.hand) ≡ free = free-is a.kernel.hand ∙ sym e in
+    ap (λ (b : Bool). due (is_masked a.method (hand_of a.kernel.hand)) (b && not (may_take (machine_of a))) a.s a.t a.frames.frames (interrupts a.frames)) same
+    ∙ ap (λ (b : Bool). due b (free && not (may_take (machine_of a))) a.s a.t a.frames.frames (interrupts a.frames)) (masked-is a.method free (hand_of a.kernel.hand) same)
 
-by_due : (a : Inside) (free masked quiet : Bool) (o : Option Place) → a.begun ≡ true → free ≡ is_none a.in_hand → masked ≡ (not free && is_direct a.method) → quiet ≡ (free && not (may_take (machine_of a))) → due masked quiet a.s a.t a.frames.frames (interrupts a.frames) ≡ o → rule a.method (machine_of a) ≡ rule_of_due o (machine_of a)
+by_due : (a : Parts) (free masked quiet : Bool) (o : Option Place) → a.begun ≡ true → free ≡ is_none a.kernel.hand → masked ≡ (not free && is_direct a.method) → quiet ≡ (free && not (may_take (machine_of a))) → due masked quiet a.s a.t a.frames.frames (interrupts a.frames) ≡ o → rule a.method (machine_of a) ≡ rule_of_due o (machine_of a)
 by_due a free masked quiet o begun e em eq d =
-    let first : rule a.method (machine_of a) ≡ rule_of_due (due (is_masked a.method (hand_of a.in_hand)) (is_quiet (machine_of a)) a.s a.t a.frames.frames (interrupts a.frames)) (machine_of a) = rw begun refl in
+    let first : rule a.method (machine_of a) ≡ rule_of_due (due (is_masked a.method (hand_of a.kernel.hand)) (is_quiet (machine_of a)) a.s a.t a.frames.frames (interrupts a.frames)) (machine_of a) = rw begun refl in
     let told : due (not free && is_direct a.method) (free && not (may_take (machine_of a))) a.s a.t a.frames.frames (interrupts a.frames) ≡ o = rw (em, eq) at d in
     first ∙ ap (λ (p : Option Place). rule_of_due p (machine_of a)) (due-asked a free e ∙ told)
 
 -- This interrupt comes.
-pub record Comes (a : Inside) (number : ℕ) : Type 0 where
+pub record Comes (a : Parts) (number : ℕ) : Type 0 where
   pub place : Place
   pub rule_is : rule a.method (machine_of a) ≡ Enters place
   pub waits : waiting_at number a.frames.waiting ≡ Some place.interrupt
@@ -51,7 +51,7 @@ pub record Comes (a : Inside) (number : ℕ) : Type 0 where
   pub there : Contains (interrupts a.frames) place.interrupt
   pub taken : interrupts (record { frames = []; waiting = without_number number a.frames.waiting }) ≡ taken_at place.at (interrupts a.frames)
 
-pub it-comes : (a : Inside) (free masked quiet : Bool) (number : ℕ) → a.begun ≡ true → free ≡ is_none a.in_hand → masked ≡ (not free && is_direct a.method) → quiet ≡ (free && not (may_take (machine_of a))) → IsRising 0 a.frames.waiting → due_number masked quiet a.s a.t a.frames.frames a.frames.waiting ≡ Some number → Comes a number
+pub it-comes : (a : Parts) (free masked quiet : Bool) (number : ℕ) → a.begun ≡ true → free ≡ is_none a.kernel.hand → masked ≡ (not free && is_direct a.method) → quiet ≡ (free && not (may_take (machine_of a))) → IsRising 0 a.frames.waiting → due_number masked quiet a.s a.t a.frames.frames a.frames.waiting ≡ Some number → Comes a number
 it-comes a free masked quiet number begun e em eq rise d = by (due masked quiet a.s a.t a.frames.frames (interrupts a.frames)) refl d
   where
     by : (o : Option Place) → due masked quiet a.s a.t a.frames.frames (interrupts a.frames) ≡ o → option_map (λ p. number_at p.at a.frames.waiting) o ≡ Some number → Comes a number
@@ -69,14 +69,14 @@ it-comes a free masked quiet number begun e em eq rise d = by (due masked quiet 
         }
 
 -- none does
-pub none-comes : (a : Inside) (free masked quiet : Bool) → a.begun ≡ true → free ≡ is_none a.in_hand → masked ≡ (not free && is_direct a.method) → quiet ≡ (free && not (may_take (machine_of a))) → due_number masked quiet a.s a.t a.frames.frames a.frames.waiting ≡ None → rule a.method (machine_of a) ≡ rule_of_frames a.frames.frames (machine_of a)
+pub none-comes : (a : Parts) (free masked quiet : Bool) → a.begun ≡ true → free ≡ is_none a.kernel.hand → masked ≡ (not free && is_direct a.method) → quiet ≡ (free && not (may_take (machine_of a))) → due_number masked quiet a.s a.t a.frames.frames a.frames.waiting ≡ None → rule a.method (machine_of a) ≡ rule_of_frames a.frames.frames (machine_of a)
 none-comes a free masked quiet begun e em eq d = by (due masked quiet a.s a.t a.frames.frames (interrupts a.frames)) refl d
   where
     by : (o : Option Place) → due masked quiet a.s a.t a.frames.frames (interrupts a.frames) ≡ o → option_map (λ p. number_at p.at a.frames.waiting) o ≡ None → rule a.method (machine_of a) ≡ rule_of_frames a.frames.frames (machine_of a)
     by None f g = by_due a free masked quiet None begun e em eq f
     by (Some p) f g = cc
 
-pub may-enter : (a : Inside) (number : ℕ) → Comes a number → IsSomeAnd (waiting_at number a.frames.waiting) (λ i. level_of a.frames.frames < i.level)
+pub may-enter : (a : Parts) (number : ℕ) → Comes a number → IsSomeAnd (waiting_at number a.frames.waiting) (λ i. level_of a.frames.frames < i.level)
 may-enter a number c = rw c.waits c.above
 
 -- what the code asks: whether something is in hand

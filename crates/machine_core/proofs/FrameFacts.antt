@@ -28,7 +28,7 @@ use Rattle.machine_model.specs.Marks.{marks_after, next_instruction}
 use Rattle.machine_model.specs.Frames.{FrameRecord, Interrupt, entered}
 use Rattle.machine_model.specs.Due.{taken_at, is_step}
 use Rattle.isr_nesting.specs.Nest.{Nest, interrupts, waiting_at, without_number}
-use Rattle.machine_core.specs.declared.machine.Machine.TheInside.{Inside}
+use Rattle.machine_core.specs.MachineView.{Parts}
 use Rattle.machine_model.specs.Machine.{Machine}
 use Rattle.machine_model.specs.Answers.{Change}
 use Rattle.machine_model.specs.Settling.{is_free}
@@ -40,10 +40,10 @@ use Rattle.deferred_queue.specs.QueueRecord.{QueueRecord}
 use Rattle.machine_core.specs.Posts.{post_at_once, post_later}
 use Rattle.machine_core.specs.FrameCalls.{called_by, next_step, step_by, refused_frame, task_below}
 use Rattle.machine_core.specs.MethodMachine.{next_machine}
-use Rattle.machine_core.specs.MachineView.{machine_of, method_machine_of, hand_of, IsKept, IsBegunOn, HasVectors}
+use Rattle.machine_core.specs.MachineView.{machine_of, method_machine_of, hand_of, IsKept, IsFitHand, HasVectors}
 use Rattle.machine_core.specs.Valid.{change, changed, most_task_steps}
 use Rattle.machine_core.proofs.ComingLaws.{Comes, free-is}
-use Rattle.machine_core.proofs.MachineFacts.{by_rule, none_begun, steady_in, with_method}
+use Rattle.machine_core.proofs.MachineFacts.{by_rule, none_fit, steady_in, with_method}
 use Rattle.machine_core.proofs.KeptLaws.{kept-change, next-same}
 use Rattle.machine_core.proofs.StillLaws.{IsSteady, steady-effect}
 use Rattle.machine_core.proofs.FrameRules.{after-is, comes-runs, IsStep, step-runs, keeps-step, goes-direct, goes-deferred}
@@ -54,7 +54,7 @@ entered-frames : (o : Option Interrupt) (i : Interrupt) (fs gs : List FrameRecor
 entered-frames None i fs gs e g = cc
 entered-frames (Some j) i fs gs e g = cc
 
-module _ (a : Inside) (number : ℕ) (c : Comes a number) (n : Nest) (frames : option_map (λ i. entered i ∷ a.frames.frames) (waiting_at number a.frames.waiting) ≡ Some n.frames) (waiting : n.waiting ≡ without_number number a.frames.waiting) where
+module _ (a : Parts) (number : ℕ) (c : Comes a number) (n : Nest) (frames : option_map (λ i. entered i ∷ a.frames.frames) (waiting_at number a.frames.waiting) ≡ Some n.frames) (waiting : n.waiting ≡ without_number number a.frames.waiting) where
   frames-are : n.frames ≡ entered c.place.interrupt ∷ a.frames.frames
   frames-are = entered-frames (waiting_at number a.frames.waiting) c.place.interrupt a.frames.frames n.frames c.waits frames
 
@@ -85,7 +85,7 @@ told-of : (o : Option Interrupt) (i : Interrupt) (locked : Bool) (what : What) �
 told-of None i locked what e t = cc
 told-of (Some j) i locked what e t = cc
 
-pub enters-line : (a : Inside) (number : ℕ) (c : Comes a number) (locked : Bool) (what : What) → option_map (λ i. Irq i.vector i.level (is_step i.moment) locked) (waiting_at number a.frames.waiting) ≡ Some what → locked ≡ not (a.kernel.state.lock == 0) → what ≡ (change a.method (machine_of a)).what
+pub enters-line : (a : Parts) (number : ℕ) (c : Comes a number) (locked : Bool) (what : What) → option_map (λ i. Irq i.vector i.level (is_step i.moment) locked) (waiting_at number a.frames.waiting) ≡ Some what → locked ≡ not (a.kernel.state.lock == 0) → what ≡ (change a.method (machine_of a)).what
 enters-line a number c locked what t e =
     told-of (waiting_at number a.frames.waiting) c.place.interrupt locked what c.waits t
     ∙ ap (λ b. Irq c.place.interrupt.vector c.place.interrupt.level (is_step c.place.interrupt.moment) b) e
@@ -100,19 +100,19 @@ locked-is lock = elim (eqb_tells lock 0) [ inl e ↦ rw (e.0, e.1) refl | inr e 
 
 -- The vectors stay within their numbers.
 
-vectors-left : (a : Inside) (f : FrameRecord) (below : List FrameRecord) (n : Nest) → a.frames.frames ≡ f ∷ below → n ≡ record { frames = below; waiting = a.frames.waiting } → HasVectors a.frames → HasVectors n
+vectors-left : (a : Parts) (f : FrameRecord) (below : List FrameRecord) (n : Nest) → a.frames.frames ≡ f ∷ below → n ≡ record { frames = below; waiting = a.frames.waiting } → HasVectors a.frames → HasVectors n
 vectors-left a f below n top e h = rw e (record { frames = All-tail (λ (g : FrameRecord). g.vector < 32) f below (rw top at h.frames); waiting = h.waiting })
 
-pub vector-top : (a : Inside) (f : FrameRecord) (below : List FrameRecord) → a.frames.frames ≡ f ∷ below → HasVectors a.frames → f.vector < 32
+pub vector-top : (a : Parts) (f : FrameRecord) (below : List FrameRecord) → a.frames.frames ≡ f ∷ below → HasVectors a.frames → f.vector < 32
 vector-top a f below top h = All-head (λ (g : FrameRecord). g.vector < 32) f below (rw top at h.frames)
 
 -- A frame leaves at its limit.
 
-free-told : (a : Inside) (free : Bool) → free ≡ is_none a.in_hand → is_free (hand_of a.in_hand) ≡ free
-free-told a free e = free-is a.in_hand ∙ sym e
+free-told : (a : Parts) (free : Bool) → free ≡ is_none a.kernel.hand → is_free (hand_of a.kernel.hand) ≡ free
+free-told a free e = free-is a.kernel.hand ∙ sym e
 
-module _ (a : Inside) (f : FrameRecord) (below : List FrameRecord) (k : IsKept a) (top : a.frames.frames ≡ f ∷ below) (r : rule a.method (machine_of a) ≡ FrameLimit f below) (n : Nest) (current : TaskId) (free : Bool) (nest : n ≡ record { frames = below; waiting = a.frames.waiting })
-    (is_free : free ≡ is_none a.in_hand) (settles : current.0 ≡ task_below n.frames free a.kernel.state a.later.posts a.current.0) where
+module _ (a : Parts) (f : FrameRecord) (below : List FrameRecord) (k : IsKept a) (top : a.frames.frames ≡ f ∷ below) (r : rule a.method (machine_of a) ≡ FrameLimit f below) (n : Nest) (current : TaskId) (free : Bool) (nest : n ≡ record { frames = below; waiting = a.frames.waiting })
+    (is_free : free ≡ is_none a.kernel.hand) (settles : current.0 ≡ task_below n.frames free a.kernel.state a.later.posts a.current.0) where
   limit-change : change a.method (machine_of a) ≡ leaves how.Limit f below (machine_of a)
   limit-change = by_rule a.method (machine_of a) (FrameLimit f below) r
 
@@ -158,7 +158,7 @@ module _ {X : Type 0} (way : Service → List ℕ → X → Answer × X) (kinds 
 
 -- the kernel of a machine, and its queue
 abbrev kernel_of : Machine → KernelRecord
-kernel_of m = record { state = m.kernel; registers = m.registers }
+kernel_of m = record { state = m.kernel; registers = m.registers; hand = None }
 
 abbrev queue_of : Machine → QueueRecord
 queue_of m = record { posts = m.later; size = m.config.defer_size }
@@ -188,14 +188,14 @@ steady-runs Direct m f below table h =
 steady-runs Deferred m f below table h = subst (IsSteady table) (deferred-is m f below).kernel h
 
 -- by the direct method nothing is in hand while a frame stands, and by the deferred one its kernel stays
-work-runs : (a : Inside) (f : FrameRecord) (below : List FrameRecord) (d : Method) → a.method ≡ d → IsKept a → a.frames.frames ≡ f ∷ below → IsBegunOn a.config a.in_hand (frame_runs program_serves d f below (machine_of a)).machine.kernel
+work-runs : (a : Parts) (f : FrameRecord) (below : List FrameRecord) (d : Method) → a.method ≡ d → IsKept a → a.frames.frames ≡ f ∷ below → IsFitHand a.config a.kernel.hand
 work-runs a f below Direct e k top =
     let valid : IsValidMachine program_serves Direct (machine_of a) = subst (λ (d : Method). IsValidMachine program_serves d (machine_of a)) e k.valid in
-    none_begun a.config a.in_hand _ (elim valid.fits.masked [ inl none ↦ none | inr none ↦ (let no : f ∷ below ≡ [] = sym top ∙ none in cc) ])
-work-runs a f below Deferred e k top = subst (IsBegunOn a.config a.in_hand) (deferred-is (machine_of a) f below).kernel k.parts.work
+    none_fit a.config a.kernel.hand (elim valid.fits.masked [ inl none ↦ none | inr none ↦ (let no : f ∷ below ≡ [] = sym top ∙ none in cc) ])
+work-runs a f below Deferred e k top = k.parts.work
 
 -- What a step of the top frame leaves is what the rule does: its parts, and the current task, which follows from them.
-module _ (a : Inside) (f : FrameRecord) (below : List FrameRecord) (k : IsKept a) (top : a.frames.frames ≡ f ∷ below) (r : rule a.method (machine_of a) ≡ FrameRuns f below) where
+module _ (a : Parts) (f : FrameRecord) (below : List FrameRecord) (k : IsKept a) (top : a.frames.frames ≡ f ∷ below) (r : rule a.method (machine_of a) ≡ FrameRuns f below) where
   abbrev c : Change
   c = frame_runs program_serves a.method f below (machine_of a)
 
@@ -203,7 +203,7 @@ module _ (a : Inside) (f : FrameRecord) (below : List FrameRecord) (k : IsKept a
   runs-change = by_rule a.method (machine_of a) (FrameRuns f below) r
 
   module _ (kernel : KernelRecord) (later : QueueRecord) (n : Nest) (ram : List ℕ) (current : TaskId) (free : Bool) (kernel_is : kernel ≡ with_state a.kernel c.machine.kernel) (later_is : later.posts ≡ c.machine.later) (nest : n ≡ record { frames = c.machine.frames; waiting = a.frames.waiting })
-      (memory : ram ≡ c.machine.memory) (is_free : free ≡ is_none a.in_hand) (settles : current.0 ≡ task_below n.frames free kernel.state later.posts a.current.0) where
+      (memory : ram ≡ c.machine.memory) (is_free : free ≡ is_none a.kernel.hand) (settles : current.0 ≡ task_below n.frames free kernel.state later.posts a.current.0) where
     runs-state : machine_of (record a { kernel = kernel; later = later; frames = n; ram = ram; current = current }) ≡ (change a.method (machine_of a)).machine
     runs-state =
         rw (settles, kernel_is, later_is, nest, memory, ← free-told a free is_free) refl

@@ -43,8 +43,15 @@ registers-step code kinds prio frames memory kernel =
     let e = exec code f.registers memory in
     keeps-step (post_at_once prio) kinds (λ (k : KernelRecord). k.registers ≡ kernel.registers) kernel refl (λ s args. refl) e.did e f (drop 1 frames.frames) (marks_after (next_instruction code f.registers) f.marks) memory
 
-pub kernel-by : (new old : KernelRecord) (k : Kernel) → new.state ≡ k → new.registers ≡ old.registers → new ≡ with_state old k
-kernel-by new old k state registers = rw (← state, ← registers) refl
+-- and so is what is in hand
+pub hand-step : (code : List ℕ) (kinds : KindTable) (prio : ℕ) (frames : Nest) (memory : List ℕ) (kernel : KernelRecord) → (frame_stepped (post_at_once prio) kinds code frames.frames memory kernel).after.hand ≡ kernel.hand
+hand-step code kinds prio frames memory kernel =
+    let f = top_of frames.frames in
+    let e = exec code f.registers memory in
+    keeps-step (post_at_once prio) kinds (λ (k : KernelRecord). k.hand ≡ kernel.hand) kernel refl (λ s args. refl) e.did e f (drop 1 frames.frames) (marks_after (next_instruction code f.registers) f.marks) memory
+
+pub kernel-by : (new old : KernelRecord) (k : Kernel) → new.state ≡ k → new.registers ≡ old.registers → new.hand ≡ old.hand → new ≡ with_state old k
+kernel-by new old k state registers hand = rw (← state, ← registers, ← hand) refl
 
 pub nest-by : (new old : Nest) (fs : List FrameRecord) → new.frames ≡ fs → new.waiting ≡ old.waiting → new ≡ record { frames = fs; waiting = old.waiting }
 nest-by new old fs frames waiting = rw (← frames, ← waiting) refl

@@ -2,7 +2,7 @@
 use Rattle.std.proofs.Common.{◌≡◌, ◌<◌, ◌≤◌, ℕ, ◌+◌, sym, ap, ◌∙◌, subst, arith}
 use Rattle.kern_base.specs.declared.kinds.Method.{Method}
 use Rattle.kern_model.specs.Services.{program_serves}
-use Rattle.machine_core.specs.declared.machine.Machine.TheInside.{Inside}
+use Rattle.machine_core.specs.MachineView.{Parts}
 use Rattle.machine_model.specs.Machine.{Machine}
 use Rattle.machine_model.specs.Bound.{events_left}
 use Rattle.machine_model.specs.Rules.{rule, raw}
@@ -21,7 +21,7 @@ valid-steps : (d : Method) (m : Machine) (s : ℕ) → IsValidMachine program_se
 valid-steps d m s v = record { kernel = v.kernel; registers = v.registers; frames = v.frames; interrupts = v.interrupts; queue = v.queue; fits = v.fits; stands = v.stands }
 
 -- The fields b are what the next event makes of the fields a, but for the raw steps.
-module _ (a b : Inside) (k : IsKept a) (open_yet : a.t < most_task_steps) (whole : method_machine_of b ≡ changed (method_machine_of a)) (parts : AreParts b) where
+module _ (a b : Parts) (k : IsKept a) (open_yet : a.t < most_task_steps) (whole : method_machine_of b ≡ changed (method_machine_of a)) (parts : AreParts b) where
   abbrev m : Machine
   m = machine_of a
 
@@ -76,7 +76,7 @@ module _ (a b : Inside) (k : IsKept a) (open_yet : a.t < most_task_steps) (whole
 -- The raw steps of an event.
 
 -- an event without one
-pub next-same : (a b : Inside) → method_machine_of b ≡ changed (method_machine_of a) → raw (rule a.method (machine_of a)) ≡ 0 → method_machine_of b ≡ next_machine (method_machine_of a)
+pub next-same : (a b : Parts) → method_machine_of b ≡ changed (method_machine_of a) → raw (rule a.method (machine_of a)) ≡ 0 → method_machine_of b ≡ next_machine (method_machine_of a)
 next-same a b e none =
     let m : Machine = machine_of a in
     let n : Machine = (change a.method m).machine in
@@ -85,7 +85,7 @@ next-same a b e none =
     e ∙ ap (λ (x : ℕ). let o : MethodMachine = record { method = a.method; state = record n { s = x } } in o) steps
 
 -- an event with one
-pub next-more : (a b : Inside) → method_machine_of b ≡ changed (method_machine_of a) → raw (rule a.method (machine_of a)) ≡ 1 → method_machine_of (record b { s = b.s + 1 }) ≡ next_machine (method_machine_of a)
+pub next-more : (a b : Parts) → method_machine_of b ≡ changed (method_machine_of a) → raw (rule a.method (machine_of a)) ≡ 1 → method_machine_of (record b { s = b.s + 1 }) ≡ next_machine (method_machine_of a)
 next-more a b e one =
     let m : Machine = machine_of a in
     let n : Machine = (change a.method m).machine in

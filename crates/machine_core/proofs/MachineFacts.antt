@@ -1,6 +1,9 @@
 -- What the machine's fields come to, act by act.
-use Rattle.std.specs.Prelude.{◌==◌, ◌&&◌, is_some, not, length, slice_index_or, slice_set}
-use Rattle.std.proofs.Common.{◌≡◌, ◌<◌, ℕ, ◌+◌, Bool, true, false, List, [], ◌∷◌, Option, Some, None, refl, sym, ap, ◌∙◌, subst, arith, eq-eqb, ne_eqb}
+use Rattle.std.specs.Prelude.{◌==◌, ◌&&◌, is_none, not, length, slice_index_or, slice_set}
+use Rattle.kernel_calls.specs.declared.stepping.Progress.{Progress}
+use Rattle.kernel_calls.specs.declared.stepping.Progress.TheVariants.{Done, More}
+use Rattle.std.proofs.lemmas.Bool.Decides.{leb_tells}
+use Rattle.std.proofs.Common.{◌≡◌, ◌⊎◌, inl, inr, ◌<◌, ℕ, ◌+◌, Bool, true, false, List, [], ◌∷◌, Option, Some, None, refl, sym, ap, ◌∙◌, subst, arith, eq-eqb, ne_eqb}
 use Rattle.kern_base.specs.declared.numbers.TaskId.{TaskId}
 use Rattle.kern_base.specs.declared.kinds.Method.{Method}
 use Rattle.kern_base.specs.Services.{argument_count}
@@ -19,10 +22,10 @@ use Rattle.kern_model.specs.Effect.{Effect}
 use Rattle.kern_model.specs.Finish.{finished}
 use Rattle.kern_model.specs.Valid.{has_result}
 use Rattle.kern_model.specs.Services.{post_request, program_serves, cost}
-use Rattle.kernel_calls.specs.KernelRecord.{KernelRecord, with_state}
-use Rattle.kernel_calls.specs.Works.{WorkRecord, IsBegun, begun, effect_of, stepped}
-use Rattle.machine_core.specs.declared.machine.Machine.TheInside.{Inside}
-use Rattle.machine_model.specs.Machine.{Machine, Work, WholeStep, CallOf, registers_at, handler_compares, effect_of as whole_effect}
+use Rattle.kernel_calls.specs.KernelRecord.{KernelRecord, IsOpen, ended, with_state}
+use Rattle.kernel_calls.specs.Works.{WorkRecord, begun, effect_of, stepped}
+use Rattle.machine_core.specs.MachineView.{Parts}
+use Rattle.machine_model.specs.Machine.{Machine, Work, WholeStep, CallOf, TakeOf, registers_at, handler_compares, effect_of as whole_effect}
 use Rattle.kern_base.specs.declared.requests.Request.{Request}
 use Rattle.machine_model.specs.declared.events.What.{What}
 use Rattle.machine_model.specs.declared.events.What.TheVariants.{Quiet as NoLine, Take}
@@ -44,7 +47,7 @@ use Rattle.machine_model.specs.Rules.{Rule, Begins, MicroStep, TakeBegins, TaskA
 use Rattle.machine_laws.specs.Valid.{IsInHand, IsBegun as InHandBegun}
 use Rattle.machine_core.specs.AnswerView.{ended_kernel, ended_line, finished_by, finished_kernel, HasNoTable}
 use Rattle.machine_core.specs.MethodMachine.{MethodMachine}
-use Rattle.machine_core.specs.MachineView.{machine_of, method_machine_of, queued_in, work_of, step_of, hand_of, IsFit, IsKept, IsBegunHere, IsBegunOn}
+use Rattle.machine_core.specs.MachineView.{machine_of, method_machine_of, queued_in, work_of, step_of, hand_of, IsFit, IsFitHand, IsKept}
 use Rattle.machine_core.specs.Valid.{most_task_steps, change, changed}
 use Rattle.machine_core.proofs.OutcomeLaws.{plain-effect}
 use Rattle.machine_core.proofs.StillLaws.{IsSteady, steady-effect, steady-finished}
@@ -101,10 +104,15 @@ raw_one None m = raw_post (m.kernel.lock == 0) (front m.later)
 pub raw-goes_on : (d : Method) (m : Machine) → GoesOn d m → raw (rule d m) ≡ 1
 raw-goes_on d m e = ap raw e ∙ raw_one m.in_hand m
 
--- with nothing in hand no work was begun
-pub none_begun : (config : Config) (o : Option WorkRecord) (k : Kernel) → hand_of o ≡ None → IsBegunOn config o k
-none_begun config None k e = tt
-none_begun config (Some h) k e = cc
+-- with nothing in hand no work is to fit
+pub none_fit : (config : Config) (o : Option WorkRecord) → hand_of o ≡ None → IsFitHand config o
+none_fit config None e = tt
+none_fit config (Some h) e = cc
+
+-- nothing is in hand
+pub hand-none : (o : Option WorkRecord) → hand_of o ≡ None → o ≡ None
+hand-none None e = refl
+hand-none (Some h) e = cc
 
 -- the machine with its method
 abbrev pub by_method : Method → Machine → MethodMachine
@@ -114,7 +122,7 @@ pub with_method : {m n : Machine} (d : Method) → m ≡ n → by_method d m ≡
 with_method d e = ap (by_method d) e
 
 -- its kernel is still, and its objects are of its kinds
-pub steady_in : (a : Inside) → IsKept a → IsSteady a.kinds a.kernel.state
+pub steady_in : (a : Parts) → IsKept a → IsSteady a.kinds a.kernel.state
 steady_in a k = record { still = k.parts.still; kinds = k.parts.kinds }
 
 waits-front : (later : List Queued) (q : Queued) → front later ≡ Some q → none_waits later ≡ false
@@ -128,14 +136,45 @@ first-of false h k x later e begun = cc
 
 -- The whole step in hand.
 
--- the work in hand was begun on this kernel
-pub begun_in : (a : Inside) (h : WorkRecord) → IsKept a → a.in_hand ≡ Some h → IsBegunHere a.config h a.kernel.state
-begun_in a h k e = rw e at k.parts.work
+-- the work in hand is a task's call or a take
+pub fit_in : (a : Parts) (h : WorkRecord) → IsKept a → a.kernel.hand ≡ Some h → IsFit (h.caller == 63) a.config h
+fit_in a h k e = rw e at k.parts.work
 
-stands_in : (a : Inside) (h : WorkRecord) → IsKept a → a.in_hand ≡ Some h → IsInHand program_serves a.config (step_of h) a.kernel.state a.current.0 a.later.posts
+-- by what came of a micro-step it was the last, or not
+step-left : (i n : ℕ) → i < n → (i + 1 < n) ⊎ (i + 1 ≡ n)
+step-left i n h = elim (leb_tells n (i + 1)) [ inl d ↦ inr (let e = d.1 in omega arith) | inr d ↦ inl d.1 ]
+
+module _ (old new : KernelRecord) (h : WorkRecord) (r : Progress) (held : old.hand ≡ Some h) (open_yet : IsOpen old.hand old.state)
+    (more : (w : WorkRecord) → old.hand ≡ Some w → w.done + 1 < cost (effect_of w old.state) old.state → (r ≡ More) × (new ≡ record old { hand = Some (stepped w) }))
+    (done : (w : WorkRecord) → old.hand ≡ Some w → w.done + 1 ≡ cost (effect_of w old.state) old.state → (r ≡ Done (effect_of w old.state).outcome) × (new ≡ ended old w)) where
+  below : h.done < cost (effect_of h old.state) old.state
+  below = subst (λ (o : Option WorkRecord). IsOpen o old.state) held open_yet
+
+  pub not-last : r ≡ More → h.done + 1 < cost (effect_of h old.state) old.state
+  not-last e = elim (step-left h.done (cost (effect_of h old.state) old.state) below) [ inl i ↦ i | inr i ↦ (let d = (done h held i).0 in cc) ]
+
+  pub is-last : (o : Outcome) → r ≡ Done o → h.done + 1 ≡ cost (effect_of h old.state) old.state
+  is-last o e = elim (step-left h.done (cost (effect_of h old.state) old.state) below) [ inl i ↦ (let d = (more h held i).0 in cc) | inr i ↦ i ]
+
+  pub outcome-is : (o : Outcome) → r ≡ Done o → o ≡ (effect_of h old.state).outcome
+  outcome-is o e = let d = (done h held (is-last o e)).0 in cc
+
+-- what is in hand
+pub take-held : (o : Option WorkRecord) (q : Queued) (i : ℕ) → hand_of o ≡ Some (record { work = TakeOf q; done = i }) → (h : WorkRecord) × (o ≡ Some h) × ((h.caller == 63) ≡ true) × (queued_in h ≡ q)
+take-held None q i e = cc
+take-held (Some h) q i e = let d = by-work (h.caller == 63) refl (cc-work (step_of h) q i e) in (h, refl, d.0, d.1)
+  where
+    cc-work : (w : WholeStep) (q : Queued) (i : ℕ) → Some w ≡ Some (record { work = TakeOf q; done = i }) → w.work ≡ TakeOf q
+    cc-work w q i e = cc
+
+    by-work : (b : Bool) → (h.caller == 63) ≡ b → work_of b h ≡ TakeOf q → ((h.caller == 63) ≡ true) × (queued_in h ≡ q)
+    by-work true d w = (d, cc)
+    by-work false d w = absurd cc
+
+stands_in : (a : Parts) (h : WorkRecord) → IsKept a → a.kernel.hand ≡ Some h → IsInHand program_serves a.config (step_of h) a.kernel.state a.current.0 a.later.posts
 stands_in a h k e = rw e at k.valid.stands
 
-advanced : (a : Inside) (h : WorkRecord) → GoesOn a.method (machine_of a) → a.in_hand ≡ Some h → change a.method (machine_of a) ≡ advances program_serves (step_of h) (machine_of a)
+advanced : (a : Parts) (h : WorkRecord) → GoesOn a.method (machine_of a) → a.kernel.hand ≡ Some h → change a.method (machine_of a) ≡ advances program_serves (step_of h) (machine_of a)
 advanced a h r e =
     let hand : (machine_of a).in_hand ≡ Some (step_of h) = ap hand_of e in
     let micro : rule a.method (machine_of a) ≡ MicroStep (step_of h) = r ∙ ap (λ o. rule_in_hand o (machine_of a)) hand in
@@ -146,19 +185,19 @@ same-call : (b : Bool) (config : Config) (w : WorkRecord) (k : Kernel) → IsFit
 same-call true config w k fit here = rw (fit.0, here refl, fit.1) refl
 same-call false config w k fit here = rw fit refl
 
-pub effect-same : (config : Config) (w : WorkRecord) (k : Kernel) → IsBegunHere config w k → effect_of w k ≡ whole_effect program_serves config (step_of w).work k
-effect-same config w k b = same-call (w.caller == 63) config w k b.fit (λ e. equal w.caller 63 e)
+pub effect-same : (config : Config) (w : WorkRecord) (k : Kernel) → IsFit (w.caller == 63) config w → effect_of w k ≡ whole_effect program_serves config (step_of w).work k
+effect-same config w k b = same-call (w.caller == 63) config w k b (λ e. equal w.caller 63 e)
 
 -- micro-steps are left
-more_left : (config : Config) (w : WorkRecord) (k : Kernel) → IsBegunHere config w k → 1 < w.left → (w.done + 1 == cost (whole_effect program_serves config (step_of w).work k) k) ≡ false
+more_left : (config : Config) (w : WorkRecord) (k : Kernel) → IsFit (w.caller == 63) config w → w.done + 1 < cost (effect_of w k) k → (w.done + 1 == cost (whole_effect program_serves config (step_of w).work k) k) ≡ false
 more_left config w k b p =
-    let total : w.done + w.left ≡ cost (whole_effect program_serves config (step_of w).work k) k = rw (effect-same config w k b) at b.begun.total in
-    ne_eqb (w.done + 1) (cost (whole_effect program_serves config (step_of w).work k) k) (λ (e : w.done + 1 ≡ cost (whole_effect program_serves config (step_of w).work k) k). omega (arith, total, p, e))
+    let more : w.done + 1 < cost (whole_effect program_serves config (step_of w).work k) k = rw (effect-same config w k b) at p in
+    ne_eqb (w.done + 1) (cost (whole_effect program_serves config (step_of w).work k) k) (λ (e : w.done + 1 ≡ cost (whole_effect program_serves config (step_of w).work k) k). omega (arith, more, e))
 
-none_left : (config : Config) (w : WorkRecord) (k : Kernel) → IsBegunHere config w k → w.left ≡ 1 → (w.done + 1 == cost (whole_effect program_serves config (step_of w).work k) k) ≡ true
+none_left : (config : Config) (w : WorkRecord) (k : Kernel) → IsFit (w.caller == 63) config w → w.done + 1 ≡ cost (effect_of w k) k → (w.done + 1 == cost (whole_effect program_serves config (step_of w).work k) k) ≡ true
 none_left config w k b p =
-    let total : w.done + w.left ≡ cost (whole_effect program_serves config (step_of w).work k) k = rw (effect-same config w k b) at b.begun.total in
-    eq-eqb (w.done + 1) (cost (whole_effect program_serves config (step_of w).work k) k) (omega (arith, total, p))
+    let last : w.done + 1 ≡ cost (whole_effect program_serves config (step_of w).work k) k = rw (effect-same config w k b) at p in
+    eq-eqb (w.done + 1) (cost (whole_effect program_serves config (step_of w).work k) k) last
 
 -- a micro-step that is not the last
 
@@ -170,37 +209,49 @@ fit-stepped : (b : Bool) (config : Config) (w : WorkRecord) → IsFit b config w
 fit-stepped true config w f = f
 fit-stepped false config w f = f
 
-step-stepped : (h g : WorkRecord) → g ≡ stepped h → step_of g ≡ record { work = (step_of h).work; done = h.done + 1 }
-step-stepped h g s =
-    ap step_of s ∙ ap (λ (w : Work). let x : WholeStep = record { work = w; done = h.done + 1 } in x) (work-stepped (h.caller == 63) h)
+step-stepped : (h : WorkRecord) → step_of (stepped h) ≡ record { work = (step_of h).work; done = h.done + 1 }
+step-stepped h = ap (λ (w : Work). let x : WholeStep = record { work = w; done = h.done + 1 } in x) (work-stepped (h.caller == 63) h)
 
-more-change : (a : Inside) (h : WorkRecord) → IsKept a → GoesOn a.method (machine_of a) → a.in_hand ≡ Some h → 1 < h.left → change a.method (machine_of a) ≡ record { what = NoLine; machine = record (machine_of a) { in_hand = Some (record { work = (step_of h).work; done = h.done + 1 }) } }
-more-change a h k r e p = advanced a h r e ∙ rw (more_left a.config h a.kernel.state (begun_in a h k e) p) refl
+more-change : (a : Parts) (h : WorkRecord) → IsKept a → GoesOn a.method (machine_of a) → a.kernel.hand ≡ Some h → h.done + 1 < cost (effect_of h a.kernel.state) a.kernel.state → change a.method (machine_of a) ≡ record { what = NoLine; machine = record (machine_of a) { in_hand = Some (record { work = (step_of h).work; done = h.done + 1 }) } }
+more-change a h k r e p = advanced a h r e ∙ rw (more_left a.config h a.kernel.state (fit_in a h k e) p) refl
 
-more-state : (a : Inside) (h g : WorkRecord) → IsKept a → GoesOn a.method (machine_of a) → a.in_hand ≡ Some h → 1 < h.left → g ≡ stepped h → machine_of (record a { in_hand = Some g }) ≡ (change a.method (machine_of a)).machine
-more-state a h g k r e p s =
-    ap (λ (w : WholeStep). let m : Machine = record (machine_of a) { in_hand = Some w } in m) (step-stepped h g s) ∙ ap (λ (c : Change). c.machine) (sym (more-change a h k r e p))
+more-state : (a : Parts) (h : WorkRecord) (n : KernelRecord) → IsKept a → GoesOn a.method (machine_of a) → a.kernel.hand ≡ Some h → h.done + 1 < cost (effect_of h a.kernel.state) a.kernel.state → n ≡ record a.kernel { hand = Some (stepped h) } → machine_of (record a { kernel = n }) ≡ (change a.method (machine_of a)).machine
+more-state a h n k r e p s =
+    ap (λ (j : KernelRecord). machine_of (record a { kernel = j })) s
+    ∙ ap (λ (w : WholeStep). let m : Machine = record (machine_of a) { in_hand = Some w } in m) (step-stepped h) ∙ ap (λ (c : Change). c.machine) (sym (more-change a h k r e p))
 
-pub more-machine : (a : Inside) (h g : WorkRecord) → IsKept a → GoesOn a.method (machine_of a) → a.in_hand ≡ Some h → 1 < h.left → g ≡ stepped h → method_machine_of (record a { in_hand = Some g }) ≡ changed (method_machine_of a)
-more-machine a h g k r e p s = with_method a.method (more-state a h g k r e p s)
+pub more-machine : (a : Parts) (h : WorkRecord) (n : KernelRecord) → IsKept a → GoesOn a.method (machine_of a) → a.kernel.hand ≡ Some h → h.done + 1 < cost (effect_of h a.kernel.state) a.kernel.state → n ≡ record a.kernel { hand = Some (stepped h) } → method_machine_of (record a { kernel = n }) ≡ changed (method_machine_of a)
+more-machine a h n k r e p s = with_method a.method (more-state a h n k r e p s)
 
-pub more-line : (a : Inside) (h : WorkRecord) → IsKept a → GoesOn a.method (machine_of a) → a.in_hand ≡ Some h → 1 < h.left → NoLine ≡ (change a.method (machine_of a)).what
+pub more-line : (a : Parts) (h : WorkRecord) → IsKept a → GoesOn a.method (machine_of a) → a.kernel.hand ≡ Some h → h.done + 1 < cost (effect_of h a.kernel.state) a.kernel.state → NoLine ≡ (change a.method (machine_of a)).what
 more-line a h k r e p = ap (λ (c : Change). c.what) (sym (more-change a h k r e p))
 
-pub more-kept : (a : Inside) (h g : WorkRecord) → IsKept a → GoesOn a.method (machine_of a) → a.in_hand ≡ Some h → a.t < most_task_steps → 1 < h.left → g ≡ stepped h → IsBegun g a.kernel.state → IsKept (record a { in_hand = Some g })
-more-kept a h g k r e open_yet p s b =
-    let fits : IsFit (h.caller == 63) a.config h = (begun_in a h k e).fit in
-    kept-change a (record a { in_hand = Some g }) k open_yet (more-machine a h g k r e p s)
-    (record { still = k.parts.still; kinds = k.parts.kinds; work = record { begun = b; fit = subst (λ (x : WorkRecord). IsFit (x.caller == 63) a.config x) (sym s) (fit-stepped (h.caller == 63) a.config h fits) }; size = k.parts.size; vectors = k.parts.vectors })
+pub more-kept : (a : Parts) (h : WorkRecord) (n : KernelRecord) → IsKept a → GoesOn a.method (machine_of a) → a.kernel.hand ≡ Some h → a.t < most_task_steps → h.done + 1 < cost (effect_of h a.kernel.state) a.kernel.state → n ≡ record a.kernel { hand = Some (stepped h) } → IsKept (record a { kernel = n })
+more-kept a h n k r e open_yet p s =
+    let fits : IsFit (h.caller == 63) a.config h = fit_in a h k e in
+    kept-change a (record a { kernel = n }) k open_yet (more-machine a h n k r e p s)
+    (record {
+      still = rw s k.parts.still;
+      kinds = rw s k.parts.kinds;
+      work = subst (λ (j : KernelRecord). IsFitHand a.config j.hand) (sym s) (fit-stepped (h.caller == 63) a.config h fits);
+      size = k.parts.size;
+      vectors = k.parts.vectors;
+    })
 
 -- the last micro-step of a call, by its outcome
 
-ended : (o : Outcome) (k : Kernel) (h : WorkRecord) (a : Inside) (n : KernelRecord) (current : TaskId) → HasNoTable o → h.caller ≡ a.current.0 → n ≡ ended_kernel (with_state a.kernel k) a.current.0 h.request.service o → current.0 ≡ settled_task n.state a.later.posts a.current.0
-    → machine_of (record a { kernel = n; current = current; in_hand = None; t = a.t + 1 }) ≡ (call_ends h.caller h.request.service o k (machine_of a)).machine
-ended (Answered x taken) k h a n current plain caller e settles = rw (settles, e, caller, plain) refl
-ended Waits k h a n current plain caller e settles = rw (settles, e) refl
-ended Gone k h a n current plain caller e settles = rw (settles, e) refl
-ended (Quiet u) k h a n current plain caller e settles = rw (settles, e) refl
+call-ended : (o : Outcome) (k : Kernel) (h : WorkRecord) (a : Parts) (n : KernelRecord) (current : TaskId) → HasNoTable o → h.caller ≡ a.current.0 → n ≡ ended_kernel (record a.kernel { state = k; hand = None }) a.current.0 h.request.service o → current.0 ≡ settled_task n.state a.later.posts a.current.0
+    → machine_of (record a { kernel = n; current = current; t = a.t + 1 }) ≡ (call_ends h.caller h.request.service o k (machine_of a)).machine
+call-ended (Answered x taken) k h a n current plain caller e settles = rw (settles, e, caller, plain) refl
+call-ended Waits k h a n current plain caller e settles = rw (settles, e) refl
+call-ended Gone k h a n current plain caller e settles = rw (settles, e) refl
+call-ended (Quiet u) k h a n current plain caller e settles = rw (settles, e) refl
+
+ended-hand : (k : KernelRecord) (x : ℕ) (s : Service) (o : Outcome) → (ended_kernel k x s o).hand ≡ k.hand
+ended-hand k x s (Answered a taken) = refl
+ended-hand k x s Waits = refl
+ended-hand k x s Gone = refl
+ended-hand k x s (Quiet u) = refl
 
 -- the outcome changes registers alone
 ended-state : (k : KernelRecord) (x : ℕ) (s : Service) (o : Outcome) → (ended_kernel k x s o).state ≡ k.state
@@ -210,7 +261,7 @@ ended-state k x s Gone = refl
 ended-state k x s (Quiet u) = refl
 
 -- what is told of it
-ended-told : (o : Outcome) (k : Kernel) (h : WorkRecord) (a : Inside) → HasNoTable o → h.caller ≡ a.current.0 → ended_line a.current.0 h.request.service o ≡ (call_ends h.caller h.request.service o k (machine_of a)).what
+ended-told : (o : Outcome) (k : Kernel) (h : WorkRecord) (a : Parts) → HasNoTable o → h.caller ≡ a.current.0 → ended_line a.current.0 h.request.service o ≡ (call_ends h.caller h.request.service o k (machine_of a)).what
 ended-told (Answered x taken) k h a plain caller = rw (caller, plain) refl
 ended-told Waits k h a plain caller = rw caller refl
 ended-told Gone k h a plain caller = rw caller refl
@@ -221,12 +272,12 @@ caller-of : (b : Bool) (h : WorkRecord) (k : Kernel) (x : ℕ) (later : List Que
 caller-of true h k x later e begun = cc
 caller-of false h k x later e begun = begun.caller
 
-module _ (a : Inside) (h : WorkRecord) (k : IsKept a) (r : GoesOn a.method (machine_of a)) (e : a.in_hand ≡ Some h) (p : h.left ≡ 1) where
+module _ (a : Parts) (h : WorkRecord) (k : IsKept a) (r : GoesOn a.method (machine_of a)) (e : a.kernel.hand ≡ Some h) (p : h.done + 1 ≡ cost (effect_of h a.kernel.state) a.kernel.state) where
   abbrev f : Effect
   f = effect_of h a.kernel.state
 
-  b : IsBegunHere a.config h a.kernel.state
-  b = begun_in a h k e
+  b : IsFit (h.caller == 63) a.config h
+  b = fit_in a h k e
 
   same : f ≡ whole_effect program_serves a.config (step_of h).work a.kernel.state
   same = effect-same a.config h a.kernel.state b
@@ -249,16 +300,17 @@ module _ (a : Inside) (h : WorkRecord) (k : IsKept a) (r : GoesOn a.method (mach
     pub call-line : ended_line a.current.0 h.request.service f.outcome ≡ (change a.method (machine_of a)).what
     call-line = ended-told f.outcome f.kernel h a plain caller ∙ ap (λ (c : Change). c.what) (sym call-change)
 
-    module _ (n : KernelRecord) (current : TaskId) (ends : n ≡ ended_kernel (with_state a.kernel f.kernel) a.current.0 h.request.service f.outcome) (settles : current.0 ≡ settled_task n.state a.later.posts a.current.0) where
-      pub last-machine : method_machine_of (record a { kernel = n; current = current; in_hand = None; t = a.t + 1 }) ≡ changed (method_machine_of a)
-      last-machine = with_method a.method (ended f.outcome f.kernel h a n current plain caller ends settles ∙ ap (λ (c : Change). c.machine) (sym call-change))
+    module _ (n : KernelRecord) (current : TaskId) (ends : n ≡ ended_kernel (ended a.kernel h) a.current.0 h.request.service f.outcome) (settles : current.0 ≡ settled_task n.state a.later.posts a.current.0) where
+      pub last-machine : method_machine_of (record a { kernel = n; current = current; t = a.t + 1 }) ≡ changed (method_machine_of a)
+      last-machine = with_method a.method (call-ended f.outcome f.kernel h a n current plain caller ends settles ∙ ap (λ (c : Change). c.machine) (sym call-change))
 
-      pub last-kept : a.t < most_task_steps → IsKept (record a { kernel = n; current = current; in_hand = None; t = a.t + 1 })
+      pub last-kept : a.t < most_task_steps → IsKept (record a { kernel = n; current = current; t = a.t + 1 })
       last-kept open_yet =
-          let state : n.state ≡ f.kernel = ap (λ (j : KernelRecord). j.state) ends ∙ ended-state (with_state a.kernel f.kernel) a.current.0 h.request.service f.outcome in
+          let state : n.state ≡ f.kernel = ap (λ (j : KernelRecord). j.state) ends ∙ ended-state (ended a.kernel h) a.current.0 h.request.service f.outcome in
+          let free : n.hand ≡ None = ap (λ (j : KernelRecord). j.hand) ends ∙ ended-hand (ended a.kernel h) a.current.0 h.request.service f.outcome in
           let steady : IsSteady a.kinds n.state = rw state (steady-effect a.kinds (call_of h.request h.caller h.interrupted h.compared) a.kernel.state (steady_in a k)) in
-          kept-change a (record a { kernel = n; current = current; in_hand = None; t = a.t + 1 }) k open_yet last-machine
-          (record { still = steady.still; kinds = steady.kinds; work = tt; size = k.parts.size; vectors = k.parts.vectors })
+          kept-change a (record a { kernel = n; current = current; t = a.t + 1 }) k open_yet last-machine
+          (record { still = steady.still; kinds = steady.kinds; work = rw free tt; size = k.parts.size; vectors = k.parts.vectors })
 
   -- a take
   module _ (takes : (h.caller == 63) ≡ true) where
@@ -269,15 +321,15 @@ module _ (a : Inside) (h : WorkRecord) (k : IsKept a) (r : GoesOn a.method (mach
         → again ≡ ((a.config.insert == 1) && some_readied h.interrupted a.kernel.state.tasks f.kernel.tasks) → what ≡ (change a.method (machine_of a)).what
     take-told what again told s = told ∙ rw s refl ∙ ap (λ (c : Change). c.what) (sym take-change)
 
-    module _ (n : KernelRecord) (later : QueueRecord) (current : TaskId) (ends : n ≡ with_state a.kernel f.kernel) (leaves : later ≡ record a.later { posts = without_front a.later.posts }) (settles : current.0 ≡ settled_task n.state later.posts a.current.0) where
-      pub take-machine : method_machine_of (record a { kernel = n; later = later; current = current; in_hand = None }) ≡ changed (method_machine_of a)
+    module _ (n : KernelRecord) (later : QueueRecord) (current : TaskId) (ends : n ≡ ended a.kernel h) (leaves : later ≡ record a.later { posts = without_front a.later.posts }) (settles : current.0 ≡ settled_task n.state later.posts a.current.0) where
+      pub take-machine : method_machine_of (record a { kernel = n; later = later; current = current }) ≡ changed (method_machine_of a)
       take-machine = with_method a.method (rw (settles, ends, leaves) refl ∙ ap (λ (c : Change). c.machine) (sym take-change))
 
-      pub take-kept : a.t < most_task_steps → IsKept (record a { kernel = n; later = later; current = current; in_hand = None })
+      pub take-kept : a.t < most_task_steps → IsKept (record a { kernel = n; later = later; current = current })
       take-kept open_yet =
           let steady : IsSteady a.kinds n.state = rw ends (steady-effect a.kinds (call_of h.request h.caller h.interrupted h.compared) a.kernel.state (steady_in a k)) in
-          kept-change a (record a { kernel = n; later = later; current = current; in_hand = None }) k open_yet take-machine
-          (record { still = steady.still; kinds = steady.kinds; work = tt; size = rw leaves k.parts.size; vectors = k.parts.vectors })
+          kept-change a (record a { kernel = n; later = later; current = current }) k open_yet take-machine
+          (record { still = steady.still; kinds = steady.kinds; work = rw ends tt; size = rw leaves k.parts.size; vectors = k.parts.vectors })
 
     -- a post waits
     pub waits-take : none_waits a.later.posts ≡ false
@@ -286,7 +338,7 @@ module _ (a : Inside) (h : WorkRecord) (k : IsKept a) (r : GoesOn a.method (mach
 -- What the current task does.
 
 -- it has read its result
-finish-answered : (a : Inside) (n : KernelRecord) (o : Option Finished) → has_result o ≡ true → n ≡ finished_by o a.kernel a.current.0 → ((memory : List ℕ) → with_table o memory ≡ memory) → machine_of (record a { kernel = n; t = a.t + 1 }) ≡ (acts program_serves a.current.0 o (machine_of a)).machine
+finish-answered : (a : Parts) (n : KernelRecord) (o : Option Finished) → has_result o ≡ true → n ≡ finished_by o a.kernel a.current.0 → ((memory : List ℕ) → with_table o memory ≡ memory) → machine_of (record a { kernel = n; t = a.t + 1 }) ≡ (acts program_serves a.current.0 o (machine_of a)).machine
 finish-answered a n None e kernel no_table = cc
 finish-answered a n (Some f) e kernel no_table = rw (kernel, no_table a.ram) refl
 
@@ -294,12 +346,20 @@ finished-state : (o : Option Finished) (k : KernelRecord) (x : ℕ) → has_resu
 finished-state None k x e = cc
 finished-state (Some f) k x e = refl
 
-pub finish-machine : (a : Inside) (n : KernelRecord) → rule a.method (machine_of a) ≡ TaskActs → has_result (task_at a.kernel.state a.current.0).answered ≡ true → n ≡ finished_kernel a.kernel a.current.0
+finished-hand : (o : Option Finished) (k : KernelRecord) (x : ℕ) → (finished_by o k x).hand ≡ k.hand
+finished-hand None k x = refl
+finished-hand (Some f) k x = refl
+
+pub finish-fit : (a : Parts) (n : KernelRecord) → hand_of a.kernel.hand ≡ None → n ≡ finished_kernel a.kernel a.current.0 → IsFitHand a.config n.hand
+finish-fit a n none e =
+    subst (IsFitHand a.config) (sym (ap (λ (k : KernelRecord). k.hand) e ∙ finished-hand (task_at a.kernel.state a.current.0).answered a.kernel a.current.0)) (none_fit a.config a.kernel.hand none)
+
+pub finish-machine : (a : Parts) (n : KernelRecord) → rule a.method (machine_of a) ≡ TaskActs → has_result (task_at a.kernel.state a.current.0).answered ≡ true → n ≡ finished_kernel a.kernel a.current.0
     → ((memory : List ℕ) → with_table (task_at a.kernel.state a.current.0).answered memory ≡ memory) → method_machine_of (record a { kernel = n; t = a.t + 1 }) ≡ changed (method_machine_of a)
 finish-machine a n r e kernel no_table =
     with_method a.method (finish-answered a n (task_at a.kernel.state a.current.0).answered e kernel no_table ∙ ap (λ (c : Change). c.machine) (sym (by_rule a.method (machine_of a) TaskActs r)))
 
-pub finish-steady : (a : Inside) (n : KernelRecord) → IsKept a → has_result (task_at a.kernel.state a.current.0).answered ≡ true → n ≡ finished_kernel a.kernel a.current.0 → IsSteady a.kinds n.state
+pub finish-steady : (a : Parts) (n : KernelRecord) → IsKept a → has_result (task_at a.kernel.state a.current.0).answered ≡ true → n ≡ finished_kernel a.kernel a.current.0 → IsSteady a.kinds n.state
 finish-steady a n k e kernel =
     let same : n.state ≡ finished a.current.0 a.kernel.state = ap (λ (j : KernelRecord). j.state) kernel ∙ finished-state (task_at a.kernel.state a.current.0).answered a.kernel a.current.0 e in
     rw same (steady-finished a.kinds a.current.0 a.kernel.state (steady_in a k))
@@ -309,12 +369,12 @@ pub instruct-change : (d : Method) (m : Machine) (x : ℕ) → rule d m ≡ Task
 instruct-change d m x r current answered = by_rule d m TaskActs r ∙ rw (current, answered) refl
 
 -- nothing is in hand
-pub none-hand : (o : Option WorkRecord) → is_some o ≡ false → hand_of o ≡ None
+pub none-hand : (o : Option WorkRecord) → is_none o ≡ true → hand_of o ≡ None
 none-hand None e = refl
 none-hand (Some h) e = cc
 
 -- the take of the first post begins
-module _ (a : Inside) (k : IsKept a) (r : GoesOn a.method (machine_of a)) (free : hand_of a.in_hand ≡ None) (may : may_take (machine_of a) ≡ true) (s : Service) (args : List ℕ) (saved compared : ℕ) (first : front a.later.posts ≡ Some (record { service = s; args = args; saved = saved })) where
+module _ (a : Parts) (k : IsKept a) (r : GoesOn a.method (machine_of a)) (free : hand_of a.kernel.hand ≡ None) (may : may_take (machine_of a) ≡ true) (s : Service) (args : List ℕ) (saved compared : ℕ) (first : front a.later.posts ≡ Some (record { service = s; args = args; saved = saved })) where
   taken-rule : rule a.method (machine_of a) ≡ TakeBegins (record { service = s; args = args; saved = saved })
   taken-rule =
       let (p, there, told) = takes-next a.method (machine_of a) r free may in
@@ -324,22 +384,22 @@ module _ (a : Inside) (k : IsKept a) (r : GoesOn a.method (machine_of a)) (free 
   pub begin-line : (change a.method (machine_of a)).what ≡ NoLine
   begin-line = ap (λ (c : Change). c.what) (by_rule a.method (machine_of a) (TakeBegins (record { service = s; args = args; saved = saved })) taken-rule)
 
-  module _ (h : WorkRecord) (work : h ≡ begun 63 (post_request s args) saved compared a.kernel.state) where
-    pub begin-machine : method_machine_of (record a { in_hand = Some h }) ≡ changed (method_machine_of a)
+  module _ (n : KernelRecord) (work : n ≡ record a.kernel { hand = Some (begun 63 (post_request s args) saved compared) }) where
+    pub begin-machine : method_machine_of (record a { kernel = n }) ≡ changed (method_machine_of a)
     begin-machine =
         with_method a.method (rw work refl ∙ ap (λ (c : Change). c.machine) (sym (by_rule a.method (machine_of a) (TakeBegins (record { service = s; args = args; saved = saved })) taken-rule)))
 
-    pub begin-kept : a.t < most_task_steps → compared ≡ handler_compares a.config saved → IsBegun h a.kernel.state → IsKept (record a { in_hand = Some h })
-    begin-kept open_yet c b =
-        kept-change a (record a { in_hand = Some h }) k open_yet begin-machine
-        (record { still = k.parts.still; kinds = k.parts.kinds; work = record { begun = b; fit = rw work (refl, c) }; size = k.parts.size; vectors = k.parts.vectors })
+    pub begin-kept : a.t < most_task_steps → compared ≡ handler_compares a.config saved → IsKept (record a { kernel = n })
+    begin-kept open_yet c =
+        kept-change a (record a { kernel = n }) k open_yet begin-machine
+        (record { still = rw work k.parts.still; kinds = rw work k.parts.kinds; work = rw work (refl, c); size = k.parts.size; vectors = k.parts.vectors })
 
 -- no task of the application is the handler
 pub not_handler : (x : ℕ) → x < 60 → (x == 63) ≡ false
 not_handler x p = ne_eqb x 63 (λ (e : x ≡ 63). omega (arith, e, p))
 
 -- an application's task has called
-module _ (a : Inside) (x : ℕ) (p : x < 60) where
+module _ (a : Parts) (x : ℕ) (p : x < 60) where
   abbrev pub e : Execution
   e = exec a.program (registers_at (machine_of a) x) a.ram
 
@@ -365,7 +425,7 @@ module _ (a : Inside) (x : ℕ) (p : x < 60) where
   trap-kernel kernel ran kind pc did was stops =
       let kept : e.registers ≡ registers_at (machine_of a) x = (subst (λ (d : Stepped). Changes d (registers_at (machine_of a) x) e.registers a.ram e.memory) did (changes-exec a.program (registers_at (machine_of a) x) a.ram)).registers in
       let same : slice_set a.kernel.registers x e.registers ≡ a.kernel.registers = ap (slice_set a.kernel.registers x) kept ∙ set-get_or a.kernel.registers x no_registers in
-      stops ∙ ap (λ (k : KernelRecord). with_state k (stopped x k.state)) was ∙ ap (λ (l : List Registers). let k : KernelRecord = record { state = stopped x a.kernel.state; registers = l } in k) same
+      stops ∙ ap (λ (k : KernelRecord). with_state k (stopped x k.state)) was ∙ ap (λ (l : List Registers). let k : KernelRecord = record { state = stopped x a.kernel.state; registers = l; hand = a.kernel.hand } in k) same
 
   pub trap-machine : (kernel ran : KernelRecord) (ram : List ℕ) (current : TaskId) (kind : TrapKind) (pc : ℕ) → e.did ≡ Trap kind pc → ram ≡ e.memory → a.current.0 ≡ x → ran ≡ record a.kernel { registers = slice_set a.kernel.registers x e.registers } → kernel ≡ with_state ran (stopped x ran.state)
       → current.0 ≡ settled_task kernel.state a.later.posts x → machine_of (record a { kernel = kernel; ram = ram; current = current; t = a.t + 1 }) ≡ (acts program_serves x None (machine_of a)).machine

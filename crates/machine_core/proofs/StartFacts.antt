@@ -28,10 +28,10 @@ use Rattle.kernel_calls.specs.KernelRecord.{start_of}
 use Rattle.rv32_exec.specs.Memory.{filled}
 use Rattle.machine_laws.specs.Valid.{IsValidMachine}
 use Rattle.machine_laws.proofs.NextValid.{valid-start_machine}
-use Rattle.machine_core.specs.declared.machine.Machine.TheInside.{Inside}
+use Rattle.machine_core.specs.MachineView.{Parts}
 use Rattle.machine_core.specs.MachineView.{machine_of, hand_of, IsKept, HasVectors}
 use Rattle.machine_core.specs.Valid.{IsStill, most_task_steps, most_events}
-use Rattle.machine_core.proofs.MachineFacts.{none_begun}
+use Rattle.machine_core.proofs.MachineFacts.{none_fit}
 use Rattle.machine_core.proofs.CurrentLaws.{pick-below}
 
 -- The interrupts.
@@ -102,11 +102,11 @@ kinds-objects (d ∷ ds) = rw (kind-content d.kind d.f, kinds-objects ds) refl
 kinds-start : (image : ImageRecord) → kinds_of (start_state image) ≡ kind_table image
 kinds-start image = ap (λ kinds. let t : KindTable = record { objects = kinds; tasks = length image.tasks } in t) (kinds-objects image.objects)
 
-pub kept-loaded : (image : ImageRecord) (list : ListRecord) (a : Inside) → IsValidImage image → HasWords image → IsValidList image list → machine_of a ≡ start image list → a.kinds ≡ kind_table image → a.later.size ≡ image.config.defer_size → IsKept a
+pub kept-loaded : (image : ImageRecord) (list : ListRecord) (a : Parts) → IsValidImage image → HasWords image → IsValidList image list → machine_of a ≡ start image list → a.kinds ≡ kind_table image → a.later.size ≡ image.config.defer_size → IsKept a
 kept-loaded image list a h words l e kinds size =
     let s : a.s ≡ 0 = ap (λ (m : Machine). m.s) e in
     let t : a.t ≡ 0 = ap (λ (m : Machine). m.t) e in
-    let none : hand_of a.in_hand ≡ None = ap (λ (m : Machine). m.in_hand) e in
+    let none : hand_of a.kernel.hand ≡ None = ap (λ (m : Machine). m.in_hand) e in
     let still : IsStill (start image list).kernel = record { tick_signals = refl; timer_signals = refl; processing = refl; lock = refl } in
     let first = pick-below (start_state image) (valid-start_machine program_serves Direct image list h words l).kernel in
     let current : a.current.0 < 64 = subst (λ (m : Machine). m.current < 64) (sym e) first in
@@ -116,7 +116,7 @@ kept-loaded image list a h words l e kinds size =
       parts = record {
         still = subst (λ (m : Machine). IsStill m.kernel) (sym e) still;
         kinds = ap (λ (m : Machine). kinds_of m.kernel) e ∙ kinds-start image ∙ sym kinds;
-        work = none_begun a.config a.in_hand a.kernel.state none;
+        work = none_fit a.config a.kernel.hand none;
         size = size ∙ ap (λ (m : Machine). m.config.defer_size) (sym e);
         vectors = vectors-start image list a.frames h l (ap (λ (m : Machine). m.frames) e) (ap (λ (m : Machine). m.interrupts) e);
       };
@@ -126,12 +126,12 @@ kept-loaded image list a h words l e kinds size =
     }
 
 -- it is loaded part by part
-module _ (image : ImageRecord) (list : ListRecord) (a : Inside) (kernel : a.kernel ≡ start_of image) (ram : a.ram ≡ filled image.ram) (current : a.current.0 ≡ pick a.kernel.state) (frames : a.frames ≡ record { frames = []; waiting = numbered 0 (interrupts_of image list) })
-    (later : a.later ≡ record { posts = []; size = image.config.defer_size }) (kinds : a.kinds ≡ kind_table image) (none : hand_of a.in_hand ≡ None) (code : a.program ≡ image.code) (config : a.config ≡ image.config) (no_look : list.looks ≡ []) (begun : a.begun ≡ false) (s : a.s ≡ 0) (t : a.t ≡ 0) where
+module _ (image : ImageRecord) (list : ListRecord) (a : Parts) (kernel : a.kernel ≡ start_of image) (ram : a.ram ≡ filled image.ram) (current : a.current.0 ≡ pick a.kernel.state) (frames : a.frames ≡ record { frames = []; waiting = numbered 0 (interrupts_of image list) })
+    (later : a.later ≡ record { posts = []; size = image.config.defer_size }) (kinds : a.kinds ≡ kind_table image) (code : a.program ≡ image.code) (config : a.config ≡ image.config) (no_look : list.looks ≡ []) (begun : a.begun ≡ false) (s : a.s ≡ 0) (t : a.t ≡ 0) where
   pub loaded : machine_of a ≡ start image list
   loaded =
       let is : interrupts a.frames ≡ interrupts_of image list = interrupts-new (interrupts_of image list) a.frames frames in
-      rw (is, current, kernel, ram, frames, later, none, code, config, no_look, begun, s, t) refl
+      rw (is, current, kernel, ram, frames, later, code, config, no_look, begun, s, t) refl
 
   pub loaded-kept : IsValidImage image → HasWords image → IsValidList image list → IsKept a
   loaded-kept h words l = kept-loaded image list a h words l loaded kinds (ap (λ (q : QueueRecord). q.size) later)

@@ -1,10 +1,14 @@
 -- What the machine's fields mean, and what is always true of them.
-use Rattle.std.specs.Prelude.{◌≡◌, ◌<◌, ◌≤◌, ◌+◌, ◌==◌, Bool, true, false, [], All, Option, Some, None}
+use Rattle.std.specs.Prelude.{ℕ, List, ◌≡◌, ◌<◌, ◌≤◌, ◌+◌, ◌==◌, Bool, true, false, [], All, Option, Some, None}
 use Rattle.app_image.specs.declared.settings.Config.{Config}
 use Rattle.kern_model.specs.State.{Kernel, kinds_of}
 use Rattle.kern_model.specs.Services.{program_serves, post_request}
-use Rattle.kernel_calls.specs.Works.{WorkRecord, IsBegun}
-use Rattle.machine_core.specs.declared.machine.Machine.TheInside.{Inside}
+use Rattle.kernel_calls.specs.Works.{WorkRecord}
+use Rattle.kernel_calls.specs.KernelRecord.{KernelRecord}
+use Rattle.kern_base.specs.Tables.{KindTable}
+use Rattle.kern_base.specs.declared.kinds.Method.{Method}
+use Rattle.kern_base.specs.declared.numbers.TaskId.{TaskId}
+use Rattle.deferred_queue.specs.QueueRecord.{QueueRecord}
 use Rattle.machine_model.specs.Queue.{Queued}
 use Rattle.machine_model.specs.Machine.{Machine, WholeStep, Work, CallOf, TakeOf, handler_compares}
 use Rattle.isr_nesting.specs.Nest.{Nest, interrupts}
@@ -12,6 +16,25 @@ use Rattle.machine_model.specs.Bound.{events_left}
 use Rattle.machine_laws.specs.Valid.{IsValidMachine}
 use Rattle.machine_core.specs.MethodMachine.{MethodMachine}
 use Rattle.machine_core.specs.Valid.{most_task_steps, most_events, IsStill}
+
+-- the fields of a machine
+pub record Parts : Type 0 where
+  pub method : Method
+  pub kernel : KernelRecord
+  pub kinds : KindTable
+  pub ram : List ℕ
+  pub program : List ℕ
+  pub config : Config
+  pub current : TaskId
+  pub frames : Nest
+  pub later : QueueRecord
+  pub begun : Bool
+  pub s : ℕ
+  pub t : ℕ
+
+abbrev pub parts : Method → KernelRecord → KindTable → List ℕ → List ℕ → Config → TaskId → Nest → QueueRecord → Bool → ℕ → ℕ → Parts
+parts method kernel kinds ram program config current frames later begun s t =
+    record { method = method; kernel = kernel; kinds = kinds; ram = ram; program = program; config = config; current = current; frames = frames; later = later; begun = begun; s = s; t = t }
 
 -- the post that a take performs
 abbrev pub queued_in : WorkRecord → Queued
@@ -32,7 +55,7 @@ hand_of None = None
 hand_of (Some w) = Some (step_of w)
 
 -- the machine that the fields are: no look is to come
-abbrev pub machine_of : Inside → Machine
+abbrev pub machine_of : Parts → Machine
 machine_of a =
     record {
       kernel = a.kernel.state;
@@ -41,7 +64,7 @@ machine_of a =
       current = a.current.0;
       frames = a.frames.frames;
       later = a.later.posts;
-      in_hand = hand_of a.in_hand;
+      in_hand = hand_of a.kernel.hand;
       interrupts = interrupts a.frames;
       looks = [];
       begun = a.begun;
@@ -52,7 +75,7 @@ machine_of a =
     }
 
 -- with its method
-abbrev pub method_machine_of : Inside → MethodMachine
+abbrev pub method_machine_of : Parts → MethodMachine
 method_machine_of a = record { method = a.method; state = machine_of a }
 
 -- A take performs a post, and readied tasks are compared with the handler's priority; in a call with the caller's.
@@ -60,15 +83,10 @@ abbrev pub IsFit : Bool → Config → WorkRecord → Type 0
 IsFit true config w = (w.request ≡ post_request w.request.service w.request.args) × (w.compared ≡ handler_compares config w.interrupted)
 IsFit false config w = w.interrupted ≡ w.compared
 
--- the work in hand was begun on this kernel
-pub record IsBegunHere (config : Config) (w : WorkRecord) (k : Kernel) : Type 0 where
-  pub begun : IsBegun w k
-  pub fit : IsFit (w.caller == 63) config w
-
 -- of what is in hand, if anything is
-abbrev pub IsBegunOn : Config → Option WorkRecord → Kernel → Type 0
-IsBegunOn config None k = Unit {0}
-IsBegunOn config (Some w) k = IsBegunHere config w k
+abbrev pub IsFitHand : Config → Option WorkRecord → Type 0
+IsFitHand config None = Unit {0}
+IsFitHand config (Some w) = IsFit (w.caller == 63) config w
 
 -- the vectors of the frames and of the interrupts that have not entered are those that an image may declare
 pub record HasVectors (n : Nest) : Type 0 where
@@ -76,17 +94,17 @@ pub record HasVectors (n : Nest) : Type 0 where
   pub waiting : All (λ i. i.vector < 32) (interrupts n)
 
 -- What is true of the fields beside the machine that they are: its kernel is still, its kinds are those of the kernel's
--- objects, the work in hand was begun here, its queue has the size of the settings, and its vectors are within their numbers.
-pub record AreParts (a : Inside) : Type 0 where
+-- objects, the work in hand is a task's call or a take, its queue has the size of the settings, and its vectors are within their numbers.
+pub record AreParts (a : Parts) : Type 0 where
   pub still : IsStill a.kernel.state
   pub kinds : kinds_of a.kernel.state ≡ a.kinds
-  pub work : IsBegunOn a.config a.in_hand a.kernel.state
+  pub work : IsFitHand a.config a.kernel.hand
   pub size : a.later.size ≡ a.config.defer_size
   pub vectors : HasVectors a.frames
 
 -- What is always true of the fields: the machine is valid by its method, its current task is one of the 64, and its task steps
 -- and its events are few.
-pub record IsKept (a : Inside) : Type 0 where
+pub record IsKept (a : Parts) : Type 0 where
   pub valid : IsValidMachine program_serves a.method (machine_of a)
   pub parts : AreParts a
   pub current : a.current.0 < 64

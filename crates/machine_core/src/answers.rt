@@ -13,6 +13,7 @@ ghost use Rattle.machine_core.specs.AnswerView.{answered_kernel, finished_kernel
 use crate::What;
 use kern_base::{Answer, Request, Service, TaskId};
 use kernel_calls::Kernel;
+use links::Links;
 use rv32_exec::Regs;
 
 const A0: u8 = 10;
@@ -63,8 +64,8 @@ fn size_in(service: Service, answer: Answer) -> Option<u32>
 }
 
 // Writes the answer of a call into the registers of its task, and its event.
-pub(crate) fn answer(
-    kernel: &mut Kernel,
+pub(crate) fn answer<L: Links>(
+    kernel: &mut Kernel<L>,
     task: TaskId,
     service: Service,
     answer: Answer,
@@ -94,8 +95,9 @@ pub(crate) fn answer(
 }
 
 // A task reads the result that waits for it.
-pub(crate) fn finish(kernel: &mut Kernel, task: TaskId, line: &mut What)
+pub(crate) fn finish<L: Links>(kernel: &mut Kernel<L>, task: TaskId, line: &mut What)
     requires inside { task.0 < 64 }
+    requires free { kernel.old.hand ≡ None }
     requires waits { has_result (task_at kernel.old.state task.0).answered ≡ true }
     ensures kernel { kernel.new ≡ finished_kernel kernel.old task.0 }
     ensures line { line.new ≡ finished_line kernel.old task.0 }

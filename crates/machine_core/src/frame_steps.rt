@@ -1,6 +1,6 @@
 // One instruction of interrupt code, wherever its posts go.
 
-ghost use Rattle.std.specs.Prelude.{◌≡◌, ◌==◌, ◌<◌, ◌-◌, ◌^◌, ◌∷◌, [], drop, false};
+ghost use Rattle.std.specs.Prelude.{◌≡◌, ◌==◌, ◌<◌, ◌-◌, ◌^◌, ◌∷◌, [], drop, false, true};
 ghost use Rattle.kern_base.specs.Numbers.{leave};
 ghost use Rattle.kern_base.specs.Services.{service_of};
 ghost use Rattle.kern_base.specs.Checks.{static_error};
@@ -83,6 +83,7 @@ fn exit(frames: &mut Frames, vector: u8, how: How, line: &mut What)
 
 // A post, which fails a static check or goes on, while a task of this priority is current.
 fn checked<P: Posts>(posts: &mut P, kinds: &Kinds, post: Post, prio: Prio) -> Answer
+    requires { P.may_post posts.old ≡ true }
     ensures answer { result ≡ (checked_to (P.posted prio.0) (static_error post.service post.args kinds.now false) post.service post.args posts.old).0 }
     ensures after { posts.new ≡ (checked_to (P.posted prio.0) (static_error post.service post.args kinds.now false) post.service post.args posts.old).1 }
 {
@@ -102,6 +103,7 @@ fn post<P: Posts>(
     prio: Prio,
     line: &mut What,
 )
+    requires posts { P.may_post posts.old ≡ true }
     requires stands { none_stands frames.old.frames ≡ false }
     requires room { (top_of frames.old.frames).used < 2 ^ 32 - 1 }
     requires vector { (top_of frames.old.frames).vector ≡ vector }
@@ -149,6 +151,7 @@ fn call<P: Posts>(
     prio: Prio,
     line: &mut What,
 )
+    requires posts { P.may_post posts.old ≡ true }
     requires stands { none_stands frames.old.frames ≡ false }
     requires room { (top_of frames.old.frames).used < 2 ^ 32 - 1 }
     requires vector { (top_of frames.old.frames).vector ≡ vector }
@@ -177,6 +180,7 @@ fn run_top<P: Posts>(
     marks: u8,
     line: &mut What,
 )
+    requires posts { P.may_post posts.old ≡ true }
     requires stands { none_stands frames.old.frames ≡ false }
     requires room { (top_of frames.old.frames).used < 2 ^ 32 - 1 }
     requires vector { (top_of frames.old.frames).vector ≡ vector }
@@ -216,6 +220,7 @@ pub(crate) fn frame_step<P: Posts>(
     posts: &mut P,
     line: &mut What,
 ) -> bool
+    requires posts { P.may_post posts.old ≡ true }
     requires stands { none_stands frames.old.frames ≡ false }
     requires room { (top_of frames.old.frames).used < 2 ^ 32 - 1 }
     requires low { (top_of frames.old.frames).vector < 32 }

@@ -1,11 +1,12 @@
 // Interrupts enter, and frames of interrupt code run and leave.
 
-ghost use Rattle.std.specs.Prelude.{◌≡◌, ◌<◌, ◌-◌, ◌^◌, ◌∷◌, drop, false, Some, option_map, IsSomeAnd};
+ghost use Rattle.std.specs.Prelude.{◌≡◌, ◌<◌, ◌-◌, ◌^◌, ◌∷◌, drop, false, Some, option_map, IsSomeAnd, true, None};
 ghost use Rattle.machine_model.specs.Frames.{entered, level_of, none_stands};
 ghost use Rattle.machine_model.specs.Due.{is_step};
 ghost use Rattle.machine_model.specs.Marks.{reads_result};
 ghost use Rattle.machine_model.specs.Rules.{rule, FrameRuns};
 ghost use Rattle.machine_model.specs.declared.events.What.TheVariants.{Irq};
+ghost use Rattle.kern_base.specs.declared.kinds.Method.TheVariants.{Direct};
 ghost use Rattle.kern_model.specs.Services.{program_serves};
 ghost use Rattle.isr_nesting.specs.Nest.{waiting_at, without_number};
 ghost use Rattle.machine_model.specs.Machine.{Machine as State};
@@ -20,6 +21,7 @@ use deferred_queue::DeferredQueue;
 use isr_nesting::Frames;
 use kern_base::{Kinds, Method, Prio, TaskId};
 use kernel_calls::Kernel;
+use links::Links;
 use rv32_exec::{Program, Ram};
 
 // An interrupt that may enter does.
@@ -40,13 +42,14 @@ pub(crate) fn enter(frames: &mut Frames, number: usize, locked: bool, line: &mut
 }
 
 // The current task once these frames stand: where no frame does and nothing is in hand, the machine settles.
-pub(crate) fn below(
+pub(crate) fn below<L: Links>(
     frames: &Frames,
     free: bool,
-    kernel: &Kernel,
+    kernel: &Kernel<L>,
     later: &DeferredQueue,
     current: TaskId,
 ) -> TaskId
+    requires { free ≡ true → kernel.now.hand ≡ None }
     ensures { result.0 ≡ task_below frames.now.frames free kernel.now.state later.now.posts current.0 }
 {
     match frames.top() {
@@ -57,20 +60,21 @@ pub(crate) fn below(
 
 // One instruction of the top frame by a method, while a task of this priority is current. Tells whether it read a
 // register with a mark.
-fn frame_step_by(
+fn frame_step_by<L: Links>(
     method: Method,
     program: &Program,
     kinds: &Kinds,
     prio: Prio,
     frames: &mut Frames,
     ram: &mut Ram,
-    kernel: &mut Kernel,
+    kernel: &mut Kernel<L>,
     later: &mut DeferredQueue,
     line: &mut What,
 ) -> bool
     requires stands { none_stands frames.old.frames ≡ false }
     requires room { (top_of frames.old.frames).used < 2 ^ 32 - 1 }
     requires low { (top_of frames.old.frames).vector < 32 }
+    requires free { method ≡ Direct → kernel.old.hand ≡ None }
     requires blank { line.old ≡ What.Quiet }
     ensures rule { (m : State) → HasParts m program.now kinds.now prio.0 frames.old ram.old later.old → kernel.old.state ≡ m.kernel
         → IsStepBy method m line.new frames.old frames.new ram.new later.new kernel.old kernel.new }
@@ -83,7 +87,7 @@ fn frame_step_by(
     }
 }
 
-impl Machine {
+impl<L: Links> Machine<L> {
     // The top frame runs one instruction. Tells whether it read a register with a mark.
     pub(crate) fn run_frame(&mut self, line: &mut What) -> bool
         requires rule { rule self.old.method self.old.state ≡ FrameRuns (top_of self.old.state.frames) (drop 1 self.old.state.frames) }
@@ -96,7 +100,7 @@ impl Machine {
         ensures machine { self.new ≡ changed self.old }
     {
         let prio = self.kernel.tcb(self.current).prio;
-        let free = self.in_hand.is_none();
+        let free = self.kernel.is_free();
         let marked = frame_step_by(
             self.method,
             &self.program,

@@ -4,6 +4,7 @@ ghost use Rattle.std.specs.Prelude.{◌≡◌, ◌<◌, ◌≤◌, ◌&&◌, not
 ghost use Rattle.kern_model.specs.Services.{program_serves};
 ghost use Rattle.app_image.specs.Image.{kind_table};
 ghost use Rattle.inject_list.specs.Lists.{IsValidList};
+ghost use Rattle.links.specs.Nodes.{AreOwn};
 ghost use Rattle.machine_model.specs.Machine.{start};
 ghost use Rattle.machine_model.specs.Rules.{rule, rule_of_frames, marks, may_take, switch_of};
 ghost use Rattle.machine_model.specs.Bound.{events_left};
@@ -20,18 +21,19 @@ use deferred_queue::DeferredQueue;
 use inject_list::InjectList;
 use isr_nesting::Frames;
 use kern_base::{Kind, Kinds, Method, NoMemory, TaskId};
-use kernel_calls::{Kernel, Work};
+use kernel_calls::Kernel;
+use links::Links;
 use rv32_exec::{Program, Ram};
 use std::alloc::Global;
 use std::marker::Model;
 
 /// The machine that runs an application and its recorded interrupts by one of the two posting methods: its tasks'
 /// registers, the kernel, the memory, the frames of interrupt code, the posts that wait and the counts of steps.
-/// All its memory is taken by `load`.
+/// All its memory is taken by `load`. Nothing of it knows which links the kernel runs over.
 #[derive(Drop)]
-pub struct Machine {
+pub struct Machine<L: Links> {
     pub(crate) method: Method,
-    pub(crate) kernel: Kernel,
+    pub(crate) kernel: Kernel<L>,
     pub(crate) kinds: Kinds,
     pub(crate) ram: Ram,
     pub(crate) program: Program,
@@ -39,22 +41,21 @@ pub struct Machine {
     pub(crate) current: TaskId,
     pub(crate) frames: Frames,
     pub(crate) later: DeferredQueue,
-    pub(crate) in_hand: Option<Work>,
     pub(crate) begun: bool,
     pub(crate) s: u64,
     pub(crate) t: u32,
 }
 
-impl Model for Machine {
+impl<L: Links> Model for Machine<L> {
     ghost use Rattle.machine_core.specs.MethodMachine.{MethodMachine};
 
     ghost Value = { MethodMachine };
 
-    ghost use Rattle.machine_core.specs.MachineView.{method_machine_of, IsKept};
+    ghost use Rattle.machine_core.specs.MachineView.{method_machine_of, parts, IsKept};
 
-    ghost view = { method_machine_of };
+    ghost view = { λ a. method_machine_of (parts a.method a.kernel a.kinds a.ram a.program a.config a.current a.frames a.later a.begun a.s a.t) };
 
-    ghost invariant = { IsKept };
+    ghost invariant = { λ a. IsKept (parts a.method a.kernel a.kinds a.ram a.program a.config a.current a.frames a.later a.begun a.s a.t) };
 }
 
 // The kinds of the objects, in order.
@@ -77,22 +78,26 @@ fn kinds_of(image: &Image) -> Kinds
     Kinds::new(kinds_in(image.objects()), tasks)
 }
 
-impl Machine {
+impl<L: Links> Machine<L> {
     /// The machine at the start of a run of this application by this method with these interrupts, and no look.
     pub fn load(
         alloc: Global,
         image: &Image,
         list: &InjectList,
         method: Method,
-    ) -> Result<Machine, NoMemory>
+        ready: L,
+        pend: L,
+    ) -> Result<Machine<L>, NoMemory>
         requires list { IsValidList image.now list.now }
         requires no_look { list.now.looks ≡ [] }
+        requires ready { AreOwn 128 (L.nexts ready) × AreOwn 128 (L.prevs ready) }
+        requires pend { AreOwn 576 (L.nexts pend) × AreOwn 576 (L.prevs pend) }
         ensures method { IfOk result (λ m. m.method ≡ method) }
         ensures start { IfOk result (λ m. m.state ≡ start image.now list.now) }
         ensures valid { IfOk result (λ m. IsValidMachine program_serves m.method m.state) }
     {
         let config = image.config();
-        let kernel = Kernel::new(alloc, image)?;
+        let kernel = Kernel::new(alloc, image, ready, pend)?;
         let frames = Frames::new(alloc, list, image)?;
         let later = DeferredQueue::new(alloc, config.defer_size as u16)?;
         let Ok(ram) = Ram::new(alloc, image.ram()) else {
@@ -112,7 +117,6 @@ impl Machine {
             current,
             frames,
             later,
-            in_hand: None,
             begun: false,
             s: 0,
             t: 0,
@@ -181,7 +185,7 @@ impl Machine {
     }
 
     /// The kernel.
-    pub fn kernel(&self) -> &Kernel
+    pub fn kernel(&self) -> &Kernel<L>
         ensures state { result.now.state ≡ self.now.state.kernel }
         ensures registers { result.now.registers ≡ self.now.state.registers }
     {
@@ -219,7 +223,7 @@ impl Machine {
         ensures marked { result ≡ marks program_serves (rule self.old.method self.old.state) self.old.state }
         ensures machine { self.new ≡ next_machine self.old }
     {
-        let free = self.in_hand.is_none();
+        let free = self.kernel.is_free();
         let masked = self.is_masked(free);
         let quiet = self.is_quiet(free);
         match self.frames.due(masked, quiet, self.s, self.t) {
@@ -248,7 +252,7 @@ impl Machine {
         };
         let vector = frame.vector;
         if frame.used >= self.config.isr_limit {
-            let free = self.in_hand.is_none();
+            let free = self.kernel.is_free();
             self.frames.leave();
             self.current = below(&self.frames, free, &self.kernel, &self.later, self.current);
             *line = What::Exit {

@@ -1,25 +1,28 @@
 // The handler performs the posts that wait, one after another.
 
-ghost use Rattle.std.specs.Prelude.{◌≡◌, ◌&&◌, ◌<◌, true, None};
-ghost use Rattle.kern_model.specs.Valid.{IsLinked};
-ghost use Rattle.kernel_calls.specs.KernelRecord.{with_state};
-ghost use Rattle.kernel_calls.specs.Works.{effect_of, IsBegun, stepped};
+ghost use Rattle.std.specs.Prelude.{ℕ, ◌≡◌, ◌&&◌, ◌+◌, ◌<◌, true, None, Some};
+ghost use Rattle.kern_model.specs.Services.{cost};
+ghost use Rattle.kernel_calls.specs.KernelRecord.{ended, IsOpen};
+ghost use Rattle.kernel_calls.specs.Works.{effect_of, stepped, WorkRecord};
 ghost use Rattle.kern_base.specs.Services.{argument_count};
 ghost use Rattle.machine_model.specs.Answers.{arguments};
 ghost use Rattle.machine_model.specs.Interrupts.{answer_in};
 ghost use Rattle.machine_model.specs.Rules.{rule, rule_in_hand, may_take};
+ghost use Rattle.machine_model.specs.Machine.{TakeOf};
 ghost use Rattle.machine_model.specs.Steps.{some_readied};
 ghost use Rattle.machine_model.specs.declared.events.What.TheVariants.{Take};
 ghost use Rattle.machine_core.specs.Valid.{most_task_steps, change, changed};
 
+use crate::tasks::settle;
 use crate::{Machine, What};
-use kern_base::{Answer, OsErr, Outcome, Prio};
-use kernel_calls::{Kernel, Progress, Work};
+use kern_base::{Answer, OsErr, Outcome, Prio, Service};
+use kernel_calls::{Kernel, Progress};
+use links::Links;
 
 // The handler's priority.
 const HIGHEST: Prio = Prio(0);
 
-impl Machine {
+impl<L: Links> Machine<L> {
     // The take of the post that waits longest begins.
     pub(crate) fn begin_take(&mut self)
         requires rule { rule self.old.method self.old.state ≡ rule_in_hand self.old.state.in_hand self.old.state }
@@ -37,29 +40,51 @@ impl Machine {
         } else {
             saved
         };
-        self.in_hand = Some(self.kernel.begin_take(post, saved, compared));
+        self.kernel.begin_take(post, saved, compared);
+    }
+
+    // One micro-step of the take in hand, of a post with these arguments and this saved priority.
+    pub(crate) fn advance_take(
+        &mut self,
+        service: Service,
+        args: [u32; 4],
+        saved: Prio,
+        line: &mut What,
+    )
+        requires rule { rule self.old.method self.old.state ≡ rule_in_hand self.old.state.in_hand self.old.state }
+        requires takes { (done : ℕ) × (self.old.state.in_hand ≡ Some (record { work = TakeOf (record { service = service; args = args; saved = saved.0 }); done = done })) }
+        requires open_yet { self.old.state.t < most_task_steps }
+        requires blank { line.old ≡ What.Quiet }
+        ensures line { line.new ≡ (change self.old.method self.old.state).what }
+        ensures machine { self.new ≡ changed self.old }
+    {
+        let literal = self.config.insert == 1;
+        let (progress, same) = perform(&mut self.kernel, saved, literal);
+        if let Progress::Done(outcome) = progress {
+            take_line(service, &args, outcome, same, line);
+            self.later.drop_front();
+            self.current = settle(&self.kernel, &self.later, self.current);
+        }
     }
 }
 
 // One micro-step of a take, and with the literal insertion rule, whether it was the last one and readied a task of
 // the priority that was saved with the post.
-pub(crate) fn perform(kernel: &mut Kernel, work: &mut Work, literal: bool) -> (Progress, bool)
-    requires begun { IsBegun work.old kernel.old.state }
-    ensures counted { work.new ≡ stepped work.old }
-    ensures more { 1 < work.old.left → result.0 ≡ Progress.More }
-    ensures kept { 1 < work.old.left → kernel.new ≡ kernel.old }
-    ensures begun { 1 < work.old.left → IsBegun work.new kernel.new.state }
-    ensures done { work.old.left ≡ 1 → result.0 ≡ Progress.Done (effect_of work.old kernel.old.state).outcome }
-    ensures kernel { work.old.left ≡ 1 → kernel.new ≡ with_state kernel.old (effect_of work.old kernel.old.state).kernel }
-    ensures same { work.old.left ≡ 1 → result.1 ≡ (literal && some_readied work.old.interrupted kernel.old.state.tasks kernel.new.state.tasks) }
-    ensures valid { IsLinked kernel.new.state }
+fn perform<L: Links>(kernel: &mut Kernel<L>, saved: Prio, literal: bool) -> (Progress, bool)
+    requires busy { (w : WorkRecord) × (kernel.old.hand ≡ Some w) }
+    ensures more { (w : WorkRecord) → kernel.old.hand ≡ Some w → w.done + 1 < cost (effect_of w kernel.old.state) kernel.old.state
+        → (result.0 ≡ Progress.More) × (kernel.new ≡ record kernel.old { hand = Some (stepped w) }) }
+    ensures done { (w : WorkRecord) → kernel.old.hand ≡ Some w → w.done + 1 ≡ cost (effect_of w kernel.old.state) kernel.old.state
+        → (result.0 ≡ Progress.Done (effect_of w kernel.old.state).outcome) × (kernel.new ≡ ended kernel.old w) }
+    ensures same { result.1 ≡ (literal && some_readied saved.0 kernel.old.state.tasks kernel.new.state.tasks) }
+    ensures open_yet { IsOpen kernel.old.hand kernel.old.state }
 {
-    if !literal || !work.is_last() {
-        return (kernel.advance(work), false);
+    if !literal {
+        return (kernel.advance(), false);
     }
     let before = kernel.ready_tasks();
-    let progress = kernel.advance(work);
-    let same = kernel.has_readied(&before, work.interrupted());
+    let progress = kernel.advance();
+    let same = kernel.has_readied(&before, saved);
     (progress, same)
 }
 
@@ -78,11 +103,9 @@ fn answer_in(outcome: Outcome) -> Answer
 }
 
 // Writes the event of a take at its end.
-pub(crate) fn take_line(work: &Work, outcome: Outcome, same: bool, line: &mut What)
-    ensures { let r = work.now.request in let a = answer_in outcome in line.new ≡ Take r.service (arguments r.service r.args) (argument_count r.service) a.err a.value same }
+fn take_line(service: Service, words: &[u32; 4], outcome: Outcome, same: bool, line: &mut What)
+    ensures { let a = answer_in outcome in line.new ≡ Take service (arguments service words.now) (argument_count service) a.err a.value same }
 {
-    let service = work.service();
-    let words = work.args();
     let n_args = service.args();
     let mut args = [0; 4];
     args[..n_args].copy_from_slice(&words[..n_args]);

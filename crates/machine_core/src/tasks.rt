@@ -12,16 +12,16 @@ ghost use Rattle.machine_core.specs.AnswerView.{ended_kernel, ended_line, HasNoT
 ghost use Rattle.machine_core.specs.Valid.{most_task_steps, change, changed};
 
 use crate::answers::{answer, call_line, finish, request_in};
-use crate::takes::{perform, take_line};
 use crate::{Machine, What};
 use deferred_queue::DeferredQueue;
 use kern_base::{Outcome, Service, TaskId};
 use kernel_calls::{Kernel, Progress};
+use links::Links;
 use rv32_exec::Stepped;
 
 const IDLE: u8 = 62;
 
-impl Machine {
+impl<L: Links> Machine<L> {
     // No frame stands: a micro-step of the whole step in hand, or else what else there is to do. It takes one
     // raw step.
     pub(crate) fn work(&mut self, line: &mut What)
@@ -31,10 +31,10 @@ impl Machine {
         ensures line { line.new ≡ (change self.old.method self.old.state).what }
         ensures machine { self.new ≡ next_machine self.old }
     {
-        if self.in_hand.is_some() {
-            self.advance(line);
-        } else {
+        if self.kernel.is_free() {
             self.begin(line);
+        } else {
+            self.advance(line);
         }
         self.s += 1;
     }
@@ -64,25 +64,19 @@ impl Machine {
         ensures line { line.new ≡ (change self.old.method self.old.state).what }
         ensures machine { self.new ≡ changed self.old }
     {
-        let Some(work) = &mut self.in_hand else {
+        let Some(work) = self.kernel.in_hand() else {
             return;
         };
+        let service = work.service();
         if work.is_take() {
-            let literal = self.config.insert == 1;
-            let (progress, same) = perform(&mut self.kernel, work, literal);
-            if let Progress::Done(outcome) = progress {
-                take_line(work, outcome, same, line);
-                self.in_hand = None;
-                self.later.drop_front();
-                self.current = settle(&self.kernel, &self.later, self.current);
-            }
+            let args = work.args();
+            let saved = work.interrupted();
+            self.advance_take(service, args, saved, line);
             return;
         }
-        match self.kernel.advance(work) {
+        match self.kernel.advance() {
             Progress::More => {}
             Progress::Done(outcome) => {
-                let service = work.service();
-                self.in_hand = None;
                 end(&mut self.kernel, self.current, service, outcome, line);
                 self.t += 1;
                 self.current = settle(&self.kernel, &self.later, self.current);
@@ -139,7 +133,7 @@ impl Machine {
                 let tcb = self.kernel.tcb(task);
                 let prio = tcb.prio;
                 let request = request_in(&tcb.regs);
-                self.in_hand = Some(self.kernel.begin(task, request, prio, prio));
+                self.kernel.begin(task, &request, prio, prio);
                 call_line(task, &request, line);
             }
             Stepped::Trap(kind, pc) => {
@@ -153,7 +147,8 @@ impl Machine {
 }
 
 // Unless the scheduler is locked or a post waits, the task that the scheduler picks becomes the current one.
-pub(crate) fn settle(kernel: &Kernel, later: &DeferredQueue, current: TaskId) -> TaskId
+pub(crate) fn settle<L: Links>(kernel: &Kernel<L>, later: &DeferredQueue, current: TaskId) -> TaskId
+    requires { kernel.now.hand ≡ None }
     ensures { result.0 ≡ settled_task kernel.now.state later.now.posts current.0 }
 {
     if later.is_empty() && kernel.lock() == 0 {
@@ -164,7 +159,13 @@ pub(crate) fn settle(kernel: &Kernel, later: &DeferredQueue, current: TaskId) ->
 }
 
 // The last micro-step of a call: its answer goes to the caller, or the caller waits.
-fn end(kernel: &mut Kernel, task: TaskId, service: Service, outcome: Outcome, line: &mut What)
+fn end<L: Links>(
+    kernel: &mut Kernel<L>,
+    task: TaskId,
+    service: Service,
+    outcome: Outcome,
+    line: &mut What,
+)
     requires inside { task.0 < 64 }
     requires plain { HasNoTable outcome }
     requires blank { line.old ≡ What.Quiet }

@@ -1,4 +1,4 @@
-use Rattle.std.proofs.Common.{◌≡◌, ◌∙◌, take}
+use Rattle.std.proofs.Common.{◌∙◌, take}
 use Rattle.link_plans.proofs.MoveFacts.{leave_at, wait_at, nothing_at}
 use Rattle.link_plans.proofs.moves.Move.wait_link.Goals as goal
 

@@ -1,20 +1,21 @@
 use Rattle.std.proofs.Common.{refl, ◌≡◌, ◌<◌, ◌∙◌, ap, sym}
+use Rattle.kernel_calls.specs.KernelRecord.{KernelRecord}
 use Rattle.kern_model.specs.State.{Task, prio_of}
 use Rattle.machine_model.specs.Rules.{TaskActs, rule}
 use Rattle.machine_model.specs.Answers.{Change}
 use Rattle.machine_laws.specs.RuleTable.{Applies}
-use Rattle.machine_core.specs.MachineView.{machine_of}
+use Rattle.machine_core.specs.MachineView.{machine_of, parts}
 use Rattle.machine_core.proofs.ActingLaws.{resting}
 use Rattle.machine_core.proofs.KeptLaws.{kept-change}
 use Rattle.machine_core.proofs.StillLaws.{IsSteady, steady-stopped}
 use Rattle.rv32_exec.specs.declared.Stepped.TheVariants.{Call, Trap}
-use Rattle.machine_core.proofs.MachineFacts.{e, called-registers, calls-line, call-machine, trap-machine, instruct-change, none_begun, steady_in, with_method, not_handler}
+use Rattle.machine_core.proofs.MachineFacts.{e, called-registers, calls-line, call-machine, trap-machine, instruct-change, none_fit, hand-none, steady_in, with_method, not_handler}
 use Rattle.machine_core.proofs.machine.Machine.instruct.Goals as goal
 
 -- the task has stopped
 pub invariant_of-self-in-Trap : goal.invariant_of-self-in-Trap
-invariant_of-self-in-Trap c =
-    let a = c.self.inside in
+invariant_of-self-in-Trap g c =
+    let a = parts c.self.inside.method c.self.inside.kernel c.self.inside.kinds c.self.inside.ram c.self.inside.program c.self.inside.config c.self.inside.current c.self.inside.frames c.self.inside.later c.self.inside.begun c.self.inside.s c.self.inside.t in
     let x = c.args.task.0 in
     let acts : rule a.method (machine_of a) ≡ TaskActs = rw (← c.self.view_is) at c.requires.rule in
     let current : a.current.0 ≡ x = rw (← c.self.view_is) at c.requires.current in
@@ -27,11 +28,11 @@ invariant_of-self-in-Trap c =
     kept-change a _ c.self.invariant open_yet
     (with_method a.method (trap-machine a x c.requires.application c.stop.new.self c.run_task.new.self c.run_task.new.ram c.settle-self-inside.result c.in-Trap.kind c.in-Trap.pc did c.run_task.ensures.memory current c.run_task.ensures.registers c.stop.ensures.kernel c.settle-self-inside.ensures
     ∙ ap (λ (d : Change). d.machine) (sym same)))
-    (record { still = steady.still; kinds = steady.kinds; work = none_begun a.config a.in_hand _ rests.0.in_hand; size = c.self.invariant.parts.size; vectors = c.self.invariant.parts.vectors })
+    (record { still = steady.still; kinds = steady.kinds; work = rw (c.stop.ensures.kernel, c.run_task.ensures.registers) (none_fit a.config a.kernel.hand rests.0.in_hand); size = c.self.invariant.parts.size; vectors = c.self.invariant.parts.vectors })
 
 pub returns-in-Trap-clause-machine : goal.returns-in-Trap-clause-machine
-returns-in-Trap-clause-machine c =
-    let a = c.self.inside in
+returns-in-Trap-clause-machine g c =
+    let a = parts c.self.inside.method c.self.inside.kernel c.self.inside.kinds c.self.inside.ram c.self.inside.program c.self.inside.config c.self.inside.current c.self.inside.frames c.self.inside.later c.self.inside.begun c.self.inside.s c.self.inside.t in
     let x = c.args.task.0 in
     let current : a.current.0 ≡ x = rw (← c.self.view_is) at c.requires.current in
     let did : (e a x c.requires.application).did ≡ Trap c.in-Trap.kind c.in-Trap.pc = sym c.run_task.ensures.did ∙ c.in-Trap.is in
@@ -39,8 +40,8 @@ returns-in-Trap-clause-machine c =
 
 -- it has called
 pub returns-in-Call-clause-line : goal.returns-in-Call-clause-line
-returns-in-Call-clause-line c =
-    let a = c.self.inside in
+returns-in-Call-clause-line g c =
+    let a = parts c.self.inside.method c.self.inside.kernel c.self.inside.kinds c.self.inside.ram c.self.inside.program c.self.inside.config c.self.inside.current c.self.inside.frames c.self.inside.later c.self.inside.begun c.self.inside.s c.self.inside.t in
     let x = c.args.task.0 in
     let did : (e a x c.requires.application).did ≡ Call = sym c.run_task.ensures.did ∙ c.in-Call.is in
     let regs : c.tcb-tcb.result.now.regs ≡ (e a x c.requires.application).registers = called-registers a x c.requires.application c.run_task.new.self c.tcb-tcb.result.now.regs c.self.invariant.valid.registers c.run_task.ensures.registers c.tcb-tcb.ensures.registers in
@@ -48,18 +49,18 @@ returns-in-Call-clause-line c =
     rw (← c.self.view_is) (calls-line a x c.requires.application c.call_line.new.line c.request_in-request.result did c.call_line.ensures request)
 
 pub returns-in-Call-clause-machine : goal.returns-in-Call-clause-machine
-returns-in-Call-clause-machine c =
-    let a = c.self.inside in
+returns-in-Call-clause-machine g c =
+    let a = parts c.self.inside.method c.self.inside.kernel c.self.inside.kinds c.self.inside.ram c.self.inside.program c.self.inside.config c.self.inside.current c.self.inside.frames c.self.inside.later c.self.inside.begun c.self.inside.s c.self.inside.t in
     let x = c.args.task.0 in
     let did : (e a x c.requires.application).did ≡ Call = sym c.run_task.ensures.did ∙ c.in-Call.is in
     let regs : c.tcb-tcb.result.now.regs ≡ (e a x c.requires.application).registers = called-registers a x c.requires.application c.run_task.new.self c.tcb-tcb.result.now.regs c.self.invariant.valid.registers c.run_task.ensures.registers c.tcb-tcb.ensures.registers in
     let request = rw regs at (c.request_in-request.ensures (e a x c.requires.application).memory) in
     let prio : c.tcb-tcb.result.now.prio.0 ≡ prio_of a.kernel.state x = ap (λ (t : Task). t.prio) c.tcb-tcb.ensures.task ∙ rw c.run_task.ensures.registers refl in
-    rw (c.begin.ensures.work, ← c.self.view_is, not_handler x c.requires.application) (with_method a.method (call-machine a x c.requires.application c.run_task.new.self c.run_task.new.ram c.request_in-request.result c.tcb-tcb.result.now.prio.0 did c.run_task.ensures.memory c.run_task.ensures.registers request prio))
+    rw (c.begin.ensures.begun, ← c.self.view_is, not_handler x c.requires.application) (with_method a.method (call-machine a x c.requires.application c.run_task.new.self c.run_task.new.ram c.request_in-request.result c.tcb-tcb.result.now.prio.0 did c.run_task.ensures.memory c.run_task.ensures.registers request prio))
 
 pub invariant_of-self-in-Call : goal.invariant_of-self-in-Call
-invariant_of-self-in-Call c =
-    let a = c.self.inside in
+invariant_of-self-in-Call g c =
+    let a = parts c.self.inside.method c.self.inside.kernel c.self.inside.kinds c.self.inside.ram c.self.inside.program c.self.inside.config c.self.inside.current c.self.inside.frames c.self.inside.later c.self.inside.begun c.self.inside.s c.self.inside.t in
     let x = c.args.task.0 in
     let acts : rule a.method (machine_of a) ≡ TaskActs = rw (← c.self.view_is) at c.requires.rule in
     let current : a.current.0 ≡ x = rw (← c.self.view_is) at c.requires.current in
@@ -71,12 +72,37 @@ invariant_of-self-in-Call c =
     let request = rw regs at (c.request_in-request.ensures (e a x c.requires.application).memory) in
     let prio : c.tcb-tcb.result.now.prio.0 ≡ prio_of a.kernel.state x = ap (λ (t : Task). t.prio) c.tcb-tcb.ensures.task ∙ rw c.run_task.ensures.registers refl in
     kept-change a _ c.self.invariant open_yet
-    (with_method a.method (rw (c.begin.ensures.work, not_handler x c.requires.application) (call-machine a x c.requires.application c.run_task.new.self c.run_task.new.ram c.request_in-request.result c.tcb-tcb.result.now.prio.0 did c.run_task.ensures.memory c.run_task.ensures.registers request prio)
+    (with_method a.method (rw (c.begin.ensures.begun, not_handler x c.requires.application) (call-machine a x c.requires.application c.run_task.new.self c.run_task.new.ram c.request_in-request.result c.tcb-tcb.result.now.prio.0 did c.run_task.ensures.memory c.run_task.ensures.registers request prio)
     ∙ ap (λ (d : Change). d.machine) (sym same)))
     (record {
-      still = rw c.run_task.ensures.registers c.self.invariant.parts.still;
-      kinds = rw c.run_task.ensures.registers c.self.invariant.parts.kinds;
-      work = record { begun = c.begin.ensures.begun; fit = rw (c.begin.ensures.work, not_handler x c.requires.application) refl };
+      still = rw (c.begin.ensures.begun, c.run_task.ensures.registers) c.self.invariant.parts.still;
+      kinds = rw (c.begin.ensures.begun, c.run_task.ensures.registers) c.self.invariant.parts.kinds;
+      work = rw (c.begin.ensures.begun, not_handler x c.requires.application) refl;
       size = c.self.invariant.parts.size;
       vectors = c.self.invariant.parts.vectors;
     })
+
+-- nothing is in hand
+pub begin-requires-clause-free : goal.begin-requires-clause-free
+begin-requires-clause-free g c =
+    let a = parts c.self.inside.method c.self.inside.kernel c.self.inside.kinds c.self.inside.ram c.self.inside.program c.self.inside.config c.self.inside.current c.self.inside.frames c.self.inside.later c.self.inside.begun c.self.inside.s c.self.inside.t in
+    let acts : rule a.method (machine_of a) ≡ TaskActs = rw (← c.self.view_is) at c.requires.rule in
+    let rests : Applies a.method TaskActs (machine_of a) = resting a.method (machine_of a) acts in
+    let none = hand-none a.kernel.hand rests.0.in_hand in
+    ap (λ (k : KernelRecord). k.hand) c.run_task.ensures.registers ∙ none
+
+pub stop-requires-clause-free : goal.stop-requires-clause-free
+stop-requires-clause-free g c =
+    let a = parts c.self.inside.method c.self.inside.kernel c.self.inside.kinds c.self.inside.ram c.self.inside.program c.self.inside.config c.self.inside.current c.self.inside.frames c.self.inside.later c.self.inside.begun c.self.inside.s c.self.inside.t in
+    let acts : rule a.method (machine_of a) ≡ TaskActs = rw (← c.self.view_is) at c.requires.rule in
+    let rests : Applies a.method TaskActs (machine_of a) = resting a.method (machine_of a) acts in
+    let none = hand-none a.kernel.hand rests.0.in_hand in
+    ap (λ (k : KernelRecord). k.hand) c.run_task.ensures.registers ∙ none
+
+pub settle-self-inside-requires : goal.settle-self-inside-requires
+settle-self-inside-requires g c =
+    let a = parts c.self.inside.method c.self.inside.kernel c.self.inside.kinds c.self.inside.ram c.self.inside.program c.self.inside.config c.self.inside.current c.self.inside.frames c.self.inside.later c.self.inside.begun c.self.inside.s c.self.inside.t in
+    let acts : rule a.method (machine_of a) ≡ TaskActs = rw (← c.self.view_is) at c.requires.rule in
+    let rests : Applies a.method TaskActs (machine_of a) = resting a.method (machine_of a) acts in
+    let none = hand-none a.kernel.hand rests.0.in_hand in
+    ap (λ (k : KernelRecord). k.hand) (c.stop.ensures.kernel) ∙ ap (λ (k : KernelRecord). k.hand) c.run_task.ensures.registers ∙ none

@@ -12,7 +12,7 @@ use Rattle.machine_core.proofs.machine.Machine.step_into.Goals.{then-self, else-
 
 -- no look is to come, which could not be printed
 pub returns-clause-printable : goal.returns-clause-printable
-returns-clause-printable c =
+returns-clause-printable g c =
     let told : c.if-self.event.what ≡ (next_event c.args.self.now).what =
     elim c.if-self.branch [
       | then-self w ↦ ap (λ (e : Event). e.what) w.event-is ∙ w.go_on-event.ensures.line
@@ -25,7 +25,7 @@ returns-clause-printable c =
 
 -- the machine is the next one, and every event leaves fewer
 pub returns-clause-fewer : goal.returns-clause-fewer
-returns-clause-fewer c = λ n p.
+returns-clause-fewer g c = λ n p.
     let happened : c.if-self.self ≡ next_machine c.args.self.now = search rules in
     let valid : IsValidMachine program_serves c.args.self.now.method c.args.self.now.state = subst (λ (m : MethodMachine). IsValidMachine program_serves m.method m.state) c.self.view_is c.self.invariant.valid in
     rw happened (events_left-next program_serves c.args.self.now.method n c.args.self.now.state valid p)
