@@ -1,9 +1,8 @@
 // The kernel over links: posts of interrupt code; a table of whole steps, with both chains of the lists that they change after
 // each micro-step; and how many neighbours are read.
 
-ghost use Rattle.std.specs.Prelude.{◌≡◌, ◌<◌, true, false, None, Some};
+ghost use Rattle.std.specs.Prelude.{◌≡◌, ◌<◌, true};
 ghost use Rattle.kern_model.specs.Valid.{MayCall};
-ghost use Rattle.kernel_calls.specs.Works.{WorkRecord};
 ghost use Rattle.links.specs.Nodes.{AreOwn};
 
 use crate::counted_links::CountedLinks;
@@ -48,17 +47,6 @@ fn kernel<L: Links>(alloc: Global, ready: L, pend: L) -> Result<Kernel<L>, Fail>
         return Err(Fail::from("no memory"));
     };
     Ok(kernel)
-}
-
-// Whether no step is in hand.
-fn is_free<L: Links>(kernel: &Kernel<L>) -> bool
-    ensures free { result ≡ true → kernel.now.hand ≡ None }
-    ensures busy { result ≡ false → (w : WorkRecord) × (kernel.now.hand ≡ Some w) }
-{
-    match kernel.in_hand() {
-        None => true,
-        Some(_) => false,
-    }
 }
 
 // Whether a task may call.
@@ -106,7 +94,7 @@ fn posts<L: Links>(rt: &impl Abort, kernel: &mut Kernel<L>) {
         (Service::SemPost, [2, 0, 0, 0], OsErr::ObjectType, 0),
         (Service::TimeTick, [0, 0, 0, 0], OsErr::CallUnknown, 0),
     ] {
-        assert!(rt; is_free(kernel));
+        assert!(rt; kernel.is_free());
         let answer = kernel.post_now(Post { service, args }, Prio(10));
         assert_eq!(rt; answer.err, err);
         assert_eq!(rt; answer.value, value);
@@ -158,7 +146,7 @@ fn reads<L: Links>(rt: &impl Abort, kernel: &Kernel<L>, row: &Row) {
 // Makes the step in hand: a micro-step for each row, and no more.
 fn made<L: Links>(rt: &impl Abort, kernel: &mut Kernel<L>, rows: &[Row], outcome: Outcome) {
     for k in 0..rows.len() {
-        assert!(rt; !is_free(kernel));
+        assert!(rt; !kernel.is_free());
         let progress = kernel.advance();
         reads(rt, kernel, &rows[k]);
         match progress {
@@ -169,14 +157,14 @@ fn made<L: Links>(rt: &impl Abort, kernel: &mut Kernel<L>, rows: &[Row], outcome
             }
         }
     }
-    assert!(rt; is_free(kernel));
+    assert!(rt; kernel.is_free());
 }
 
 // A task calls.
 fn begin<L: Links>(rt: &impl Abort, kernel: &mut Kernel<L>, task: TaskId, request: &Request)
     requires { task.0 < 60 }
 {
-    assert!(rt; is_free(kernel) && may_call(kernel, task));
+    assert!(rt; kernel.is_free() && may_call(kernel, task));
     kernel.begin(task, request, Prio(10), Prio(10));
 }
 
@@ -228,10 +216,10 @@ fn steps<L: Links>(rt: &impl Abort, kernel: &mut Kernel<L>) {
         service: Service::SemPost,
         args: [0; 4],
     };
-    assert!(rt; is_free(kernel));
+    assert!(rt; kernel.is_free());
     kernel.begin_take(post, Prio(20), Prio(20));
     made(rt, kernel, &head, fine(0));
-    assert!(rt; is_free(kernel));
+    assert!(rt; kernel.is_free());
     assert_eq!(rt; kernel.pick(), TaskId(1));
 }
 
@@ -274,10 +262,10 @@ fn half_made_lists_of_calls(rt: HostRuntime) -> Result<(), Fail> {
 // Makes the step in hand, of so many micro-steps.
 fn whole<L: Links>(rt: &impl Abort, kernel: &mut Kernel<L>, count: u32) {
     for _ in 0..count {
-        assert!(rt; !is_free(kernel));
+        assert!(rt; !kernel.is_free());
         let _ = kernel.advance();
     }
-    assert!(rt; is_free(kernel));
+    assert!(rt; kernel.is_free());
 }
 
 // A wait reads a waiter for each that it passes, a pick the first of a ready list, and a call without a block next to nothing.
@@ -291,7 +279,7 @@ fn reads_counted<L: Links>(
         begin(rt, kernel, TaskId(task), &call(Service::SemPend, 0));
         whole(rt, kernel, 6 + task as u32);
         ready.set(0);
-        assert!(rt; is_free(kernel));
+        assert!(rt; kernel.is_free());
         assert_eq!(rt; kernel.pick(), TaskId(task + 1));
         assert!(rt; ready.get() >= 1);
     }
