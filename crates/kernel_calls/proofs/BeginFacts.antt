@@ -1,27 +1,23 @@
 -- A whole step that begins: what was decided of a call is planned, and its first micro-step is in hand.
-use Rattle.std.proofs.Common.{◌≡◌, ◌⊎◌, ℕ, zero, suc, ◌<◌, ◌≤◌, ◌+◌, List, [], ◌∷◌, ◌++◌, length, drop, take, map, refl, sym, ap, ◌∙◌, subst, Bool, true, false, not, inl, inr, Option, Some, None, arith}
-use Rattle.std.specs.Prelude.{All, if◌then◌else◌, ◌==◌, slice_index}
-use Rattle.std.proofs.lemmas.Bool.{false≢true, true≢false}
+use Rattle.std.proofs.Common.{◌≡◌, ℕ, ◌<◌, List, [], ◌∷◌, ◌++◌, length, refl, sym, ap, ◌∙◌, subst, false, arith}
+use Rattle.std.specs.Prelude.{◌==◌}
 use Rattle.kern_base.specs.Services.{is_post}
 use Rattle.kern_base.specs.declared.numbers.Prio.{Prio}
-use Rattle.kern_base.specs.declared.numbers.TaskId.{TaskId}
-use Rattle.kern_base.specs.declared.services.Service.{Service}
-use Rattle.kern_base.specs.declared.services.Service.TheVariants.{SemPost, SemPend, SemPendAbort}
-use Rattle.kern_base.specs.declared.requests.Request.{Request}
+use Rattle.kern_base.specs.declared.services.Service.TheVariants.{SemPost, SemPend}
 use Rattle.kern_base.specs.declared.outcomes.Around.{Around}
 use Rattle.kern_base.specs.declared.outcomes.Decision.{Decision}
 use Rattle.kern_base.specs.declared.outcomes.Decision.TheVariants.{Done, Block, Wake}
 use Rattle.kern_base.specs.declared.outcomes.Who.TheVariants.{First, All as Every, Matching}
-use Rattle.kern_model.specs.State.{Kernel, is_ready, list_at, prio_of, task_at}
+use Rattle.kern_model.specs.State.{Kernel, list_at}
 use Rattle.kern_model.specs.Micro.{Halves, Lists, Micro, in_order, lists_of, plain, whole}
 use Rattle.kern_model.specs.Checks.{argument}
 use Rattle.kern_model.specs.Effect.{Effect, blocks_on, chosen}
 use Rattle.kern_model.specs.Services.{blocks, content_for, cost}
-use Rattle.kern_model.specs.Valid.{AllWait, IsLinked, MayCall}
+use Rattle.kern_model.specs.Valid.{AllWait, IsLinked}
 use Rattle.kern_model.proofs.Lemmas.{AllWait-chosen, AllWait-pend, caller_ready, equal, not_false}
 use Rattle.micro_steps.specs.declared.link.Link.{Link}
 use Rattle.micro_steps.specs.declared.link.Link.TheVariants as link
-use Rattle.micro_steps.specs.Halfway.{seen as nodes_seen, seen_lists}
+use Rattle.micro_steps.specs.Halfway.{seen as nodes_seen}
 use Rattle.micro_steps.specs.Whole.{AreFit, IsMidway, IsPaused, StepsRecord, lists_after, task_blocks}
 use Rattle.link_plans.specs.Fits.{AreKernels, IsNoded}
 use Rattle.link_plans.specs.Plans.{block_links, links_left, wakes_links}
@@ -29,7 +25,7 @@ use Rattle.link_plans.specs.declared.plan.Plan.{Plan}
 use Rattle.link_plans.proofs.Past.{links_keep}
 use Rattle.decisions.specs.Around.{IsAround}
 use Rattle.decisions.specs.Decided.{decided, ends_waits, wait_of}
-use Rattle.kernel_records.specs.Deciding.{IsServedDecision, decision_by, decision_of, own_change}
+use Rattle.kernel_records.specs.Deciding.{IsServedDecision, decision_of, own_change}
 use Rattle.kernel_records.specs.Concluding.{objects_waited, woken_of}
 use Rattle.kernel_records.proofs.ConcludingFacts.{plain-wait, plain-wake}
 use Rattle.kernel_records.proofs.DecidingFacts.{acting, acting-inside, own-none, unlocked-by}

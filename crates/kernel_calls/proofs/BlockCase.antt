@@ -1,17 +1,17 @@
 -- The plan of a call in which the caller waits for one object.
-use Rattle.std.proofs.Common.{◌≡◌, ℕ, zero, suc, ◌<◌, ◌≤◌, ◌+◌, List, [], ◌∷◌, length, get_or, refl, sym, ap, ◌∙◌, subst, inl, inr, arith}
-use Rattle.std.specs.Prelude.{All, if◌then◌else◌, ◌==◌, ◌&&◌, Bool, true, false, not, Option, Some, None, slice_index}
-use Rattle.std.proofs.lemmas.Bool.{false≢true, true≢false}
+use Rattle.std.proofs.Common.{◌≡◌, ℕ, ◌<◌, ◌≤◌, ◌+◌, List, [], ◌∷◌, length, refl, sym, ap, ◌∙◌, inl, inr, arith}
+use Rattle.std.specs.Prelude.{if◌then◌else◌, ◌==◌, Bool, true, false}
+use Rattle.std.proofs.lemmas.Bool.{true≢false}
 use Rattle.std.proofs.lemmas.Bool.Decides.{leb_tells}
 use Rattle.std.proofs.lemmas.List.{get_or_past}
 use Rattle.std.proofs.lemmas.List.Elements.{All-nil, All-cons}
 use Rattle.kern_base.specs.declared.numbers.Prio.{Prio}
-use Rattle.kern_model.specs.State.{Kernel, Task, count_of, is_ready, prio_of, task_at, update_task, no_task, waits_for_nothing}
+use Rattle.kern_model.specs.State.{Kernel, Task, is_ready, prio_of, task_at}
 use Rattle.kern_model.specs.Micro.{Lists}
 use Rattle.kern_model.specs.Effect.{Wait, block_blocks, blocked, waiting_task}
 use Rattle.kern_model.specs.Valid.{IsLinked}
 use Rattle.kern_model.proofs.Lemmas.{and_first, task-other, task-updated, update_task_same}
-use Rattle.micro_steps.specs.Blocks.{no_prio, prio_in}
+use Rattle.micro_steps.specs.Blocks.{no_prio}
 use Rattle.micro_steps.specs.Whole.{AreFit, lists_after, task_blocks}
 use Rattle.link_plans.specs.Fits.{AreKernels, IsNoded}
 use Rattle.link_plans.specs.Plans.{block_links}

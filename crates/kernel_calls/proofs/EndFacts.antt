@@ -1,6 +1,5 @@
 -- What the last micro-step of a whole step leaves.
-use Rattle.std.proofs.Common.{◌≡◌, ℕ, ◌<◌, ◌≤◌, ◌+◌, List, [], ◌∷◌, length, map, refl, sym, ap, ◌∙◌, subst, Bool, true, false, inl, inr, arith}
-use Rattle.std.proofs.lemmas.Bool.{true≢false}
+use Rattle.std.proofs.Common.{◌≡◌, ℕ, ◌+◌, List, [], length, map, sym, ap, ◌∙◌, subst, true, false, arith}
 use Rattle.kern_base.specs.declared.outcomes.Around.{Around}
 use Rattle.kern_base.specs.Tables.{KindTable}
 use Rattle.kern_base.specs.declared.requests.Request.{Request}
@@ -11,7 +10,7 @@ use Rattle.kern_model.specs.Micro.{Halves, Lists, is_filled, lists_of, whole}
 use Rattle.kern_model.specs.Call.{call_of}
 use Rattle.kern_model.specs.Checks.{argument}
 use Rattle.kern_model.specs.Effect.{Effect}
-use Rattle.kern_model.specs.Services.{blocks, cost, half, effect, program_serves}
+use Rattle.kern_model.specs.Services.{blocks, cost, half, program_serves}
 use Rattle.kern_model.specs.Valid.{IsLinked}
 use Rattle.kern_model.proofs.Lemmas.{AllWait-pend, linked-effect}
 use Rattle.kern_model.proofs.Halves.Services.{half-effect}
@@ -26,7 +25,7 @@ use Rattle.kernel_records.specs.Concluding.{concluded, outcome_of, woken_of}
 use Rattle.kernel_records.specs.Served.{IsServed}
 use Rattle.kernel_records.proofs.ConcludingFacts.{concluded-bare, has-outcome, is-concluded}
 use Rattle.kernel_calls.specs.Works.{WorkRecord, effect_of}
-use Rattle.kernel_calls.specs.Stepping.{AreNodes, HasPrios, IsInHand, IsPlanned, IsResting, prios_over}
+use Rattle.kernel_calls.specs.Stepping.{AreNodes, HasPrios, IsInHand, IsResting, prios_over}
 use Rattle.kernel_calls.specs.KernelView.{IsSound, state_with}
 use Rattle.kernel_calls.proofs.ServedFacts.{served-decided}
 use Rattle.kernel_calls.proofs.StepFacts.{cost-below, may-call, none-left}

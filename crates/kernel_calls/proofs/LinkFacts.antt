@@ -1,18 +1,18 @@
 -- The links of a plan that begins, and the end of the step behind them.
-use Rattle.std.proofs.Common.{◌≡◌, ℕ, zero, suc, inl, inr, ◌<◌, ◌≤◌, ◌+◌, ◌*◌, ◌/◌, List, [], ◌∷◌, ◌++◌, length, drop, take, get_or, refl, sym, ap, ◌∙◌, subst, Bool, true, false, arith}
-use Rattle.std.specs.Prelude.{slice_set, if◌then◌else◌, ◌==◌}
+use Rattle.std.proofs.Common.{◌≡◌, ℕ, zero, suc, inl, inr, ◌<◌, ◌+◌, ◌*◌, ◌/◌, List, [], ◌∷◌, ◌++◌, length, drop, refl, sym, ap, ◌∙◌, subst, Bool, false, arith}
+use Rattle.std.specs.Prelude.{slice_set, if◌then◌else◌}
 use Rattle.std.proofs.lemmas.Bool.Decides.{eqb_tells}
-use Rattle.std.proofs.lemmas.List.{get_or-set_same, get_or-set_other, get_or_past}
+use Rattle.std.proofs.lemmas.List.{get_or-set_same, get_or-set_other}
 use Rattle.kern_base.specs.declared.numbers.Prio.{Prio}
 use Rattle.kern_base.specs.declared.outcomes.Decision.{Decision}
 use Rattle.kern_base.specs.declared.outcomes.Decision.TheVariants.{Done, Block, Wake}
 use Rattle.kern_model.specs.State.{Kernel, Task, task_in, prio_of}
-use Rattle.kern_model.specs.Micro.{Block as MicroBlock, Lists, after, plain}
+use Rattle.kern_model.specs.Micro.{Lists, after, plain}
 use Rattle.micro_steps.specs.declared.link.Link.{Link}
 use Rattle.micro_steps.specs.declared.link.Link.TheVariants as link
 use Rattle.micro_steps.specs.Blocks.{block_of, no_prio, prio_in}
-use Rattle.micro_steps.specs.Whole.{AreFit, FitsLink, lists_after, prios_after, task_block, task_blocks}
-use Rattle.link_plans.specs.Plans.{block_links, decision_left, leave_links, links_left, ready_links, wait_links, wakes_left, wakes_links}
+use Rattle.micro_steps.specs.Whole.{AreFit, lists_after, prios_after, task_block, task_blocks}
+use Rattle.link_plans.specs.Plans.{block_links, decision_left, leave_links, links_left, ready_links, wakes_left, wakes_links}
 use Rattle.link_plans.specs.declared.plan.Plan.{Plan}
 use Rattle.kernel_calls.specs.Stepping.{HasPrios, prios_over}
 

@@ -1,15 +1,15 @@
 -- One whole link: all its micro-steps, from lists that are the same in both directions to such lists.
-use Rattle.std.proofs.Common.{Bool, ◌≡◌, ◌<◌, ◌≤◌, ℕ, zero, suc, ◌+◌, ◌/◌, List, [], ◌∷◌, ◌++◌, length, take, drop, map, refl, sym, ap, ◌∙◌, subst, arith}
+use Rattle.std.proofs.Common.{Bool, ◌≡◌, ◌<◌, ℕ, zero, suc, ◌+◌, ◌/◌, List, [], ◌∷◌, length, take, drop, map, refl, sym, ap, ◌∙◌, subst, arith}
 use Rattle.std.proofs.lemmas.List.{append-nil, length-append, length-map, length-take, length-drop}
 use Rattle.kern_base.specs.declared.numbers.Prio.{Prio}
 use Rattle.kern_model.specs.Micro.{Block, Halves, Lists, Micro, after, changed_all, in_order, is_filled, leave, plain, readied_at, unready, wait, whole}
 use Rattle.kern_model.proofs.Halves.Blocks.{Does, does_leave, does_plain, does_readied_at, does_unready, does_wait}
 use Rattle.micro_steps.specs.declared.link.Link.{Link}
 use Rattle.micro_steps.specs.declared.link.Link.TheVariants as link
-use Rattle.micro_steps.specs.Blocks.{IsAt, IsEven, block_of, place_at, prio_in, rest}
+use Rattle.micro_steps.specs.Blocks.{block_of, place_at, prio_in, rest}
 use Rattle.micro_steps.specs.Halfway.{on_tasks, seen, seen_lists, tasks_in}
 use Rattle.micro_steps.specs.Starts.{AreChains}
-use Rattle.micro_steps.specs.Whole.{FitsLink, HasNode, IsMidway, IsPaused, StepsRecord, prios_after, task_block, task_blocks}
+use Rattle.micro_steps.specs.Whole.{FitsLink, IsMidway, IsPaused, StepsRecord, prios_after, task_block, task_blocks}
 use Rattle.micro_steps.proofs.Seen.{some_left}
 
 -- a block leads to lists that are the same in both directions

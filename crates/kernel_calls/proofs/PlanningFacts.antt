@@ -1,5 +1,5 @@
 -- Waiters of an object that there is not.
-use Rattle.std.proofs.Common.{◌≡◌, ℕ, ◌<◌, ◌≤◌, ◌/◌, List, [], ◌∷◌, length, map, take, get_or, refl, sym, ap, ◌∙◌, subst, inl, inr, Bool, true, false, not, zero, suc, arith}
+use Rattle.std.proofs.Common.{◌≡◌, ℕ, ◌<◌, ◌≤◌, ◌/◌, List, [], ◌∷◌, length, map, take, refl, sym, ap, ◌∙◌, subst, inl, inr, true, false, not, arith}
 use Rattle.std.specs.Prelude.{nat_lt, ◌==◌}
 use Rattle.std.proofs.lemmas.Bool.Decides.{eqb_tells, leb_tells}
 use Rattle.std.proofs.lemmas.List.{get_or_past, length-map}
@@ -20,7 +20,6 @@ use Rattle.kern_base.specs.declared.outcomes.Decision.{Decision}
 use Rattle.kern_base.specs.declared.outcomes.Decision.TheVariants.{Done, Block, Wake}
 use Rattle.kern_base.specs.declared.outcomes.Who.{Who}
 use Rattle.kern_base.specs.declared.outcomes.Who.TheVariants.{First, All, Matching}
-use Rattle.links.specs.Chain as nodes
 use Rattle.micro_steps.specs.Halfway.{tasks_in}
 use Rattle.micro_steps.proofs.Seen.{list_at-take, list_at-tasks}
 use Rattle.pend_lists.specs.Pending.{AreNodeLists}

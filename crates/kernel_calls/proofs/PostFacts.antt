@@ -7,10 +7,6 @@ use Rattle.kern_base.specs.declared.services.Service.TheVariants.{SemPost, SemPe
 use Rattle.kern_base.specs.declared.requests.Request.{Request}
 use Rattle.kern_base.specs.declared.errors.OsErr.{OsErr}
 use Rattle.kern_base.specs.declared.errors.OsErr.TheVariants.{SemOverflow, CallUnknown}
-use Rattle.kern_base.specs.declared.outcomes.Answer.{Answer}
-use Rattle.kern_base.specs.declared.outcomes.Finished.{Finished}
-use Rattle.kern_base.specs.declared.outcomes.Outcome.{Outcome}
-use Rattle.kern_base.specs.declared.outcomes.Outcome.TheVariants.{Answered, Waits, Gone, Quiet}
 use Rattle.kern_base.specs.Services.{is_post}
 use Rattle.kern_base.specs.Checks.{IsPost}
 use Rattle.kern_model.specs.Call.{Call, call_of}

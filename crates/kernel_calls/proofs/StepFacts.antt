@@ -1,6 +1,5 @@
 -- What a micro-step of the step in hand keeps.
-use Rattle.std.proofs.Common.{◌≡◌, ◌⊎◌, ℕ, ◌<◌, ◌≤◌, ◌+◌, ◌^◌, List, [], ◌∷◌, ◌++◌, length, drop, take, map, refl, sym, ap, ◌∙◌, subst, Bool, true, false, Option, Some, None, inl, inr, arith}
-use Rattle.std.specs.Prelude.{All}
+use Rattle.std.proofs.Common.{◌≡◌, ℕ, ◌<◌, ◌≤◌, ◌+◌, List, [], length, drop, refl, sym, ap, ◌∙◌, subst, Bool, true, false, Some, None, inl, inr, arith}
 use Rattle.std.proofs.lemmas.Bool.{true≢false}
 use Rattle.std.proofs.lemmas.List.{length-map}
 use Rattle.std.proofs.lemmas.Grind.{common_steps}
@@ -8,15 +7,15 @@ use Rattle.kern_base.specs.declared.outcomes.Around.{Around}
 use Rattle.kern_base.specs.Checks.{is_post}
 use Rattle.kern_model.specs.State.{Kernel}
 use Rattle.kern_model.specs.Effect.{Effect}
-use Rattle.kern_model.specs.Micro.{Lists, Micro, in_order, lists_of}
+use Rattle.kern_model.specs.Micro.{Lists, Micro, lists_of}
 use Rattle.kern_model.specs.Call.{call_of}
-use Rattle.kern_model.specs.Services.{blocks, cost, effect, program_serves}
+use Rattle.kern_model.specs.Services.{blocks, cost, program_serves}
 use Rattle.kern_model.specs.Valid.{IsLinked, MayCall}
 use Rattle.kern_model.proofs.Lemmas.{cost-effect-le}
 use Rattle.micro_steps.specs.declared.link.Link.{Link}
 use Rattle.micro_steps.specs.Blocks.{rest}
 use Rattle.micro_steps.specs.Halfway.{left_of, on_tasks, to_go}
-use Rattle.micro_steps.specs.Whole.{IsMidway, IsPaused, StepsRecord, prios_after, task_blocks}
+use Rattle.micro_steps.specs.Whole.{IsMidway, IsPaused, StepsRecord, task_blocks}
 use Rattle.micro_steps.proofs.Seen.{some_left}
 use Rattle.link_plans.specs.Plans.{links_left}
 use Rattle.link_plans.specs.declared.plan.Plan.{Plan}

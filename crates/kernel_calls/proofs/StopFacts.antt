@@ -1,6 +1,5 @@
 -- One task's record changes while nothing is in hand: it reads its result, or it stops.
-use Rattle.std.proofs.Common.{◌≡◌, ◌<◌, ℕ, ◌+◌, ◌*◌, ◌/◌, Bool, true, false, List, length, get_or, Option, Some, None, refl, sym, ap, ◌∙◌, subst, inl, inr, arith}
-use Rattle.std.proofs.lemmas.Bool.Decides.{eqb_tells}
+use Rattle.std.proofs.Common.{◌≡◌, ◌<◌, ℕ, ◌+◌, ◌*◌, ◌/◌, Bool, true, false, List, get_or, Option, Some, None, refl, sym, ap, ◌∙◌, subst}
 use Rattle.kern_base.specs.declared.numbers.Prio.{Prio}
 use Rattle.kern_base.specs.declared.outcomes.Around.{Around}
 use Rattle.kern_base.specs.declared.outcomes.Finished.{Finished}
@@ -9,13 +8,12 @@ use Rattle.kern_model.specs.Finish.{finished, finished_with, flags_consumed}
 use Rattle.kern_model.specs.Micro.{Halves, Lists, whole}
 use Rattle.kern_model.specs.Stop.{stopped}
 use Rattle.kern_model.specs.Valid.{IsLinked}
-use Rattle.kern_model.proofs.Lemmas.{linked-finished, linked-stopped, task-other, task-updated, update_task_same}
+use Rattle.kern_model.proofs.Lemmas.{linked-finished, linked-stopped, update_task_same}
 use Rattle.link_plans.specs.Fits.{IsNoded}
 use Rattle.link_plans.specs.declared.plan.Plan.{Plan}
-use Rattle.micro_steps.specs.Blocks.{prio_in}
 use Rattle.micro_steps.specs.Whole.{StepsRecord}
 use Rattle.kernel_records.specs.RecordsRecord.{RecordsRecord, without_lists}
-use Rattle.kernel_records.specs.Served.{IsServed, IsServedResult, IsServedWait}
+use Rattle.kernel_records.specs.Served.{IsServedResult}
 use Rattle.kernel_records.specs.TaskChanges.{cleared_task, stopped_task}
 use Rattle.kernel_calls.specs.KernelView.{IsSound, hand_of, state_with}
 use Rattle.kernel_calls.specs.Stepping.{AreNodes, HasPrios, IsHand, IsResting}

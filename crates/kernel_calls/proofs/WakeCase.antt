@@ -1,17 +1,17 @@
 -- The plan of a call that wakes tasks.
 use Rattle.std.proofs.Common.{◌≡◌, ℕ, ◌<◌, ◌≤◌, List, [], ◌∷◌, length, refl, sym, ap, ◌∙◌, subst, inl, inr, arith}
-use Rattle.std.specs.Prelude.{if◌then◌else◌, ◌==◌, Bool, true, false}
+use Rattle.std.specs.Prelude.{false}
 use Rattle.std.proofs.lemmas.Bool.Decides.{eqb_tells}
 use Rattle.kern_base.specs.declared.numbers.Prio.{Prio}
 use Rattle.kern_base.specs.declared.requests.Request.{Request}
-use Rattle.kern_model.specs.State.{Kernel, Task, count_of, prio_of, task_at, waits_for_nothing}
+use Rattle.kern_model.specs.State.{Kernel, count_of, prio_of, task_at, waits_for_nothing}
 use Rattle.kern_model.specs.Micro.{Lists}
-use Rattle.kern_model.specs.Effect.{answered_task, wakes, wakes_all, wakes_blocks}
+use Rattle.kern_model.specs.Effect.{wakes, wakes_all, wakes_blocks}
 use Rattle.kern_model.specs.Valid.{AllWait, IsLinked}
 use Rattle.kern_model.proofs.Basics.Updates.{objects-wakes, prio_of-wakes}
 use Rattle.micro_steps.specs.Blocks.{prio_in}
 use Rattle.micro_steps.specs.Whole.{AreFit, lists_after, task_blocks}
-use Rattle.link_plans.specs.Fits.{AreKernels, CanWake, IsNoded}
+use Rattle.link_plans.specs.Fits.{AreKernels, IsNoded}
 use Rattle.link_plans.specs.Plans.{wakes_links}
 use Rattle.link_plans.proofs.NodeKeeps.{wakes_keep}
 use Rattle.link_plans.proofs.NodeLaws.{waiter_can_wake}

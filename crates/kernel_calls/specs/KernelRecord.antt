@@ -1,6 +1,6 @@
 -- The kernel as contracts see it: its state as the whole step in hand found it, the registers of each task by number, and that
 -- step, with the lists that its micro-steps have made so far.
-use Rattle.std.specs.Prelude.{◌≡◌, ◌<◌, List, Option, Some, None}
+use Rattle.std.specs.Prelude.{◌<◌, List, Option, Some, None}
 use Rattle.app_image.specs.Image.{ImageRecord}
 use Rattle.kern_model.specs.State.{Kernel}
 use Rattle.kern_model.specs.Micro.{Halves, lists_of, whole}

@@ -1,6 +1,5 @@
 -- What a decision comes to in the records.
-use Rattle.std.proofs.Common.{◌≡◌, ℕ, ◌<◌, List, [], ◌∷◌, length, refl, sym, ap, ◌∙◌, subst, Bool, true, false}
-use Rattle.std.proofs.lemmas.Bool.{false≢true}
+use Rattle.std.proofs.Common.{◌≡◌, ℕ, ◌<◌, List, [], ◌∷◌, refl, sym, ap, ◌∙◌, subst, false}
 use Rattle.kern_base.specs.Services.{renews}
 use Rattle.kern_base.specs.declared.services.Service.{Service}
 use Rattle.kern_base.specs.declared.services.Service.TheVariants.{SemPost, SemPend}
@@ -11,11 +10,11 @@ use Rattle.kern_base.specs.declared.outcomes.Who.TheVariants.{First, All, Matchi
 use Rattle.kern_model.specs.State.{Kernel, task_at}
 use Rattle.kern_model.specs.Micro.{at_head, at_tail}
 use Rattle.kern_model.specs.Effect.{Effect, answered_task, wakes, wakes_all, chosen}
-use Rattle.kern_model.proofs.Lemmas.{task-updated, task-other, update_task_at}
-use Rattle.decisions.specs.Decided.{decided, ending_of, gone_after, renewed_after, ends_waits}
+use Rattle.kern_model.proofs.Lemmas.{update_task_at}
+use Rattle.decisions.specs.Decided.{ending_of, gone_after, renewed_after}
 use Rattle.kernel_records.specs.RecordsRecord.{without_lists}
-use Rattle.kernel_records.specs.Deciding.{IsServedDecision, own_change}
-use Rattle.kernel_records.specs.Concluding.{awakened, awakened_all, concluded, handing, outcome_of, woken_of, IsConcluded, HasOutcome, IsSingle}
+use Rattle.kernel_records.specs.Deciding.{own_change}
+use Rattle.kernel_records.specs.Concluding.{awakened, awakened_all, concluded, handing, IsConcluded, HasOutcome, IsSingle}
 
 -- tasks that are woken, in the records
 pub wakes-awakened : (r : Request) (h : ℕ) (xs : List ℕ) (k : Kernel) → without_lists (wakes_all (handing r) h xs k) ≡ awakened_all r xs (without_lists k)

@@ -1,12 +1,12 @@
 -- What a refusal and a call without success leave as it was, and on which service a decision can be.
-use Rattle.std.proofs.Common.{◌≡◌, ℕ, zero, suc, ◌<◌, ◌+◌, ◌-◌, List, [], ◌∷◌, map, length, get_or, refl, sym, ap, ◌∙◌, subst, Bool, true, false, ◌&&◌, ◌||◌, not, Option, Some, None}
+use Rattle.std.proofs.Common.{◌≡◌, ℕ, zero, suc, ◌<◌, ◌+◌, ◌-◌, List, [], ◌∷◌, length, refl, sym, ap, ◌∙◌, subst, Bool, true, false, ◌&&◌, ◌||◌, not, Option, Some, None}
 use Rattle.std.specs.Prelude.{if◌then◌else◌, ◌==◌, nat_lt, slice_get, slice_index, slice_set}
 use Rattle.std.proofs.lemmas.Bool.{false≢true}
-use Rattle.std.proofs.lemmas.List.{set-get_or, map-set}
+use Rattle.std.proofs.lemmas.List.{set-get_or}
 use Rattle.std.proofs.Math.Seq.{map-set_same}
 use Rattle.kern_base.specs.Tables.{KindTable}
 use Rattle.kern_base.specs.Services.{names_option}
-use Rattle.kern_base.specs.Checks.{static_error, target_error, task_error, object_error, is_one_of, kinds_wanted, names_task, caller_number}
+use Rattle.kern_base.specs.Checks.{static_error, target_error, object_error, is_one_of, kinds_wanted, names_task, caller_number}
 use Rattle.kern_base.specs.declared.kinds.Kind.{Kind}
 use Rattle.kern_base.specs.declared.kinds.Kind.TheVariants.{Sem}
 use Rattle.kern_base.specs.declared.services.Service.{Service}
@@ -17,7 +17,7 @@ use Rattle.kern_base.specs.declared.errors.OsErr.TheVariants.{CallUnknown, Objec
 use Rattle.kern_base.specs.declared.outcomes.Around.{Around}
 use Rattle.kern_base.specs.declared.outcomes.Decision.{Decision}
 use Rattle.kern_base.specs.declared.outcomes.Decision.TheVariants.{Done, Block, Wake}
-use Rattle.kern_model.specs.State.{Kernel, Object, Content, Count, Messages, Bits, Held, Timed, object_at, object_in, no_object, task_at, kind_of, kinds_of, update_object, with_content}
+use Rattle.kern_model.specs.State.{Kernel, Object, Content, Count, Messages, Bits, Held, Timed, object_at, no_object, task_at, kind_of, kinds_of, with_content}
 use Rattle.kern_model.specs.Effect.{refused}
 use Rattle.kern_model.specs.Checks.{argument, call_error, existence_error, first_error, is_deleted, named_task}
 use Rattle.kern_model.specs.Services.{content_for, program_serves}

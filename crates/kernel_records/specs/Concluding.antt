@@ -4,7 +4,7 @@ use Rattle.kern_base.specs.declared.services.Service.{Service}
 use Rattle.kern_base.specs.declared.requests.Request.{Request}
 use Rattle.kern_base.specs.declared.outcomes.Decision.{Decision}
 use Rattle.kern_base.specs.declared.outcomes.Decision.TheVariants.{Done, Block, Wake}
-use Rattle.kern_base.specs.declared.outcomes.Who.TheVariants.{First, All, Matching}
+use Rattle.kern_base.specs.declared.outcomes.Who.TheVariants.{First, All}
 use Rattle.kern_base.specs.declared.outcomes.Outcome.{Outcome}
 use Rattle.kern_base.specs.declared.outcomes.Outcome.TheVariants.{Waits}
 use Rattle.kern_base.specs.declared.outcomes.Finished.{Finished}

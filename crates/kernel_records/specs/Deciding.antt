@@ -1,6 +1,5 @@
 -- What is decided of a call, by the records alone, and how the object that it names then changes.
-use Rattle.std.specs.Prelude.{◌≡◌, ℕ, false, Option, Some, None, if◌then◌else◌}
-use Rattle.kern_base.specs.Services.{renews}
+use Rattle.std.specs.Prelude.{◌≡◌, ℕ, Option, Some, None, if◌then◌else◌}
 use Rattle.kern_base.specs.declared.services.Service.{Service}
 use Rattle.kern_base.specs.declared.services.Service.TheVariants.{SemPost, SemPend}
 use Rattle.kern_base.specs.declared.requests.Request.{Request}

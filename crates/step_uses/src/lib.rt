@@ -4,4 +4,6 @@
 #[cfg(test)]
 mod counted_links;
 #[cfg(test)]
+mod kernel_tests;
+#[cfg(test)]
 mod tests;

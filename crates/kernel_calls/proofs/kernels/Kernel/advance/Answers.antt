@@ -1,5 +1,5 @@
-use Rattle.std.proofs.Common.{◌≡◌, ℕ, ◌<◌, ◌≤◌, ◌+◌, ◌∷◌, [], refl, sym, ap, ◌∙◌, subst, Some, None, true, false, arith, length}
-use Rattle.std.specs.Prelude.{All, Bool, Option}
+use Rattle.std.proofs.Common.{◌≡◌, ℕ, ◌<◌, ◌+◌, ◌∷◌, [], refl, sym, ap, ◌∙◌, subst, Some, None, true, arith}
+use Rattle.std.specs.Prelude.{Bool, Option}
 use Rattle.kern_base.specs.declared.outcomes.Around.{Around}
 use Rattle.arrayvec.specs.ArrayVec.{ArrayVec}
 use Rattle.kern_model.specs.State.{Kernel, list_at}
@@ -12,17 +12,17 @@ use Rattle.link_plans.specs.Plans.{links_left}
 use Rattle.link_plans.specs.declared.plan.Plan.{Plan}
 use Rattle.micro_steps.specs.declared.link.Link.{Link}
 use Rattle.micro_steps.specs.Whole.{IsMidway, IsPaused, StepsRecord, prios_after}
-use Rattle.kernel_records.specs.Concluding.{concluded, outcome_of, woken_of}
+use Rattle.kernel_records.specs.Concluding.{woken_of}
 use Rattle.kernel_records.specs.RecordsRecord.{RecordsRecord}
 use Rattle.kernel_records.specs.Served.{IsServed}
 use Rattle.kernel_calls.specs.Works.{WorkRecord, effect_of, stepped}
-use Rattle.kernel_calls.specs.Stepping.{AreNodes, HasPrios, IsHand, IsInHand, IsResting, prios_over}
-use Rattle.kernel_calls.specs.KernelRecord.{KernelRecord, ended}
+use Rattle.kernel_calls.specs.Stepping.{AreNodes, IsHand, IsInHand, prios_over}
+use Rattle.kernel_calls.specs.KernelRecord.{KernelRecord}
 use Rattle.kernel_calls.specs.declared.stepping.Progress.TheVariants.{Done}
-use Rattle.kernel_calls.specs.KernelView.{IsSound, hand_of, state_with}
-use Rattle.kernel_calls.proofs.StepFacts.{below-cost, busy-of, few-steps, hand-back, hand-next, in-hand, left-below, none-left, IsSamePlan}
+use Rattle.kernel_calls.specs.KernelView.{IsSound, state_with}
+use Rattle.kernel_calls.proofs.StepFacts.{below-cost, busy-of, few-steps, hand-back, hand-next, in-hand, left-below, IsSamePlan}
 use Rattle.kernel_calls.proofs.ServedFacts.{all-single}
-use Rattle.kernel_calls.proofs.EndFacts.{halves-made, same-concluded, same-outcome, sound-end, is-last, linked-made, nodes-made, outcome-made, prios-made, served-made, state-made}
+use Rattle.kernel_calls.proofs.EndFacts.{same-concluded, same-outcome, sound-end, is-last, outcome-made, state-made}
 use Rattle.kernel_calls.proofs.kernels.Kernel.advance.Goals as goal
 
 pub count-requires : goal.count-requires

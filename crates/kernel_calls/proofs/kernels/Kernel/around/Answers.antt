@@ -1,10 +1,9 @@
-use Rattle.std.proofs.Common.{◌≡◌, ◌∙◌, ap, sym, subst, not, length}
+use Rattle.std.proofs.Common.{◌≡◌, ◌∙◌, ap, sym, not, length}
 use Rattle.std.specs.Prelude.{◌==◌}
 use Rattle.kern_model.specs.State.{Task, list_at}
 use Rattle.kern_model.specs.Micro.{Halves}
 use Rattle.micro_steps.specs.Halfway.{tasks_in}
-use Rattle.decisions.specs.Around.{IsAround, first_waiter}
-use Rattle.kernel_calls.specs.KernelRecord.{KernelRecord}
+use Rattle.decisions.specs.Around.{first_waiter}
 use Rattle.kernel_calls.specs.KernelView.{state_with}
 use Rattle.kernel_calls.proofs.PlanningFacts.{all-waiters, is-locked}
 use Rattle.kernel_calls.proofs.StepFacts.{at-rest, free-of}

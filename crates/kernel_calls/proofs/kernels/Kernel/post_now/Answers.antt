@@ -1,9 +1,9 @@
-use Rattle.std.proofs.Common.{◌≡◌, ℕ, List, Option, ◌<◌, ◌+◌, refl, sym, ap, ◌∙◌, subst, Some, None, inl, inr}
+use Rattle.std.proofs.Common.{◌≡◌, ℕ, List, Option, ◌<◌, ◌+◌, sym, ap, ◌∙◌, subst, Some, None, inl, inr}
 use Rattle.kern_base.specs.declared.services.Service.{Service}
 use Rattle.kern_base.specs.declared.outcomes.Outcome.{Outcome}
 use Rattle.kern_model.specs.Services.{cost, posted, program_serves}
 use Rattle.kernel_calls.specs.KernelRecord.{KernelRecord, ended}
-use Rattle.kernel_calls.specs.Works.{IsPlainAnswer, WorkRecord, begun, effect_of, stepped}
+use Rattle.kernel_calls.specs.Works.{IsPlainAnswer, WorkRecord, effect_of, stepped}
 use Rattle.kernel_calls.specs.declared.stepping.Progress.{Progress}
 use Rattle.kernel_calls.specs.declared.stepping.Progress.TheVariants.{Done, More}
 use Rattle.kernel_calls.proofs.PostFacts.{plain-posted}

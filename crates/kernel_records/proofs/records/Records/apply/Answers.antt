@@ -1,9 +1,8 @@
-use Rattle.std.proofs.Common.{ap, sym, ◌∙◌, ◌≡◌, ◌<◌, length, map, true, arith}
+use Rattle.std.proofs.Common.{ap, sym, ◌∙◌, ◌≡◌, map, arith}
 use Rattle.std.proofs.lemmas.List.{length-map}
 use Rattle.std.proofs.lemmas.Grind.{common_steps}
 use Rattle.std.specs.Vec.{with_items}
-use Rattle.kern_model.specs.Checks.{argument}
-use Rattle.kern_model.specs.State.{Kernel, Object, kind_of, kinds_of, update_object}
+use Rattle.kern_model.specs.State.{Kernel, Object, kind_of, update_object}
 use Rattle.std.specs.Prelude.{List, slice_index}
 use Rattle.kernel_records.specs.Deciding.{content_after}
 use Rattle.kernel_records.specs.ObjectView.{objects_in}

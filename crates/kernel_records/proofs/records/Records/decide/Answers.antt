@@ -1,4 +1,4 @@
-use Rattle.std.proofs.Common.{ap, sym, ◌∙◌, ◌≡◌, false, refl, true, Some}
+use Rattle.std.proofs.Common.{sym, ◌≡◌, false, refl, true, Some}
 use Rattle.kern_base.specs.declared.errors.OsErr.TheVariants.{CallUnknown}
 use Rattle.kern_model.specs.State.{list_at}
 use Rattle.kern_model.specs.Checks.{argument, call_error}

@@ -1,6 +1,4 @@
-use Rattle.std.proofs.Common.{◌≡◌, ap, sym, ◌∙◌, map, length, List, ℕ, refl, rules}
-use Rattle.kern_base.specs.Tables.{KindTable}
-use Rattle.kern_base.specs.declared.kinds.Kind.{Kind}
+use Rattle.std.proofs.Common.{◌≡◌, ap, sym, ◌∙◌, map, length, refl, rules}
 use Rattle.kern_model.specs.State.{Object, kind_of}
 use Rattle.kernel_records.specs.ObjectView.{objects_in}
 use Rattle.kernel_records.proofs.StartFacts.{kinds-start}

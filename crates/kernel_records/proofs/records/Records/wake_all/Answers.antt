@@ -1,4 +1,4 @@
-use Rattle.std.proofs.Common.{◌≡◌, ◌+◌, ◌∷◌, ◌<◌, length, ap, sym, ◌∙◌, drop, get_or, add-one, subst, ℕ, refl}
+use Rattle.std.proofs.Common.{◌≡◌, ◌+◌, ◌∷◌, ◌<◌, length, ap, sym, ◌∙◌, drop, get_or, add-one, subst, ℕ}
 use Rattle.std.proofs.Math.Seq.{drop-cons}
 use Rattle.kern_model.specs.State.{Kernel, task_at}
 use Rattle.kernel_records.specs.Concluding.{awakened_all, IsSingle}
