@@ -1,0 +1,71 @@
+// Polls of counts, and a task that waits for two objects.
+
+ghost use Rattle.std.specs.Prelude.{◌≡◌, length, map};
+ghost use Rattle.kern_model.specs.State.{Count};
+
+use crate::{Pollable, Taken, leave_others, poll_all, wait_on};
+use kern_base::{ObjId, Prio, TaskId};
+use links::IndexLinks;
+use pend_lists::PendLists;
+use std::test::Fail;
+
+// Semaphores alone.
+#[derive(Drop)]
+struct Counts {
+    counts: [u32; 64],
+}
+
+impl Pollable for Counts {
+    ghost seen = { λ a. record { contents = map (λ n. Count n) a.counts; free = 0 } };
+
+    ghost valid = { λ a. length a.counts ≡ 64 };
+
+    ghost same_rest = { λ a b. Unit {0} };
+
+    fn poll(&mut self, obj: ObjId) -> Option<Taken> {
+        let count = self.counts[obj.0 as usize];
+        if count == 0 {
+            return None;
+        }
+        self.counts[obj.0 as usize] = count - 1;
+        Some(Taken { msg: 0, size: 0 })
+    }
+
+    ghost rest_itself = { λ a. tt };
+
+    ghost rest_later = { λ a b c first second. tt };
+}
+
+#[test]
+fn polls_take_one_of_each_that_is_ready(rt: HostRuntime) {
+    let mut counts = Counts { counts: [0; 64] };
+    counts.counts[4] = 2;
+    counts.counts[9] = 1;
+    let one = Some(Taken { msg: 0, size: 0 });
+    let polled = poll_all(&mut counts, &[4, 7, 9]);
+    assert_eq!(rt; polled, [one, None, one, None, None, None, None, None]);
+    assert_eq!(rt;
+        (counts.counts[4], counts.counts[7], counts.counts[9]),
+        (1, 0, 0)
+    );
+    let polled = poll_all(&mut counts, &[9, 4]);
+    assert_eq!(rt; polled, [None, one, None, None, None, None, None, None]);
+}
+
+#[test]
+fn a_task_waits_for_two_objects_and_leaves_both(rt: HostRuntime) -> Result<(), Fail> {
+    let mut lists = PendLists::new(IndexLinks::new(rt.alloc(), 576)?);
+    let objects = [0, 9];
+    wait_on(&mut lists, TaskId(3), &objects, &[Prio(10); 64]);
+    assert_eq!(rt;
+        (lists.first(ObjId(0)), lists.first(ObjId(9))),
+        (Some(TaskId(3)), Some(TaskId(3)))
+    );
+    assert_eq!(rt; lists.first(ObjId(1)), None);
+    leave_others(&mut lists, TaskId(3), &objects);
+    assert_eq!(rt;
+        (lists.first(ObjId(0)), lists.first(ObjId(9))),
+        (None, None)
+    );
+    Ok(())
+}
