@@ -1,5 +1,7 @@
 -- Kernels whose objects are all semaphores.
-use Rattle.std.proofs.Common.{◌≡◌, ℕ, List, map, set, get_or, sym, ap, ◌∙◌}
+use Rattle.std.proofs.Common.{◌≡◌, nat_lt, is_some, ℕ, zero, suc, List, map, set, get_or, refl, sym, ap, ◌∙◌, arith}
+use Rattle.std.proofs.lemmas.Bool.{lt-ltb}
+use Rattle.kern_model.specs.Several.{polled}
 use Rattle.std.proofs.Math.ListN.{get_or-map}
 use Rattle.std.proofs.lemmas.List.{map-set}
 use Rattle.kern_model.specs.State.{Kernel, Count, object_at, with_content, no_object}
@@ -20,3 +22,8 @@ seen-left k counts o m seen = record {
       ∙ ap (λ cs. set cs o (Count m)) seen.contents ∙ sym (map-set (λ n. Count n) counts o m);
   free = seen.free;
 }
+
+-- a count can be taken from where it is not 0
+pub ready-count : (n : ℕ) → nat_lt 0 n ≡ is_some (polled (Count n))
+ready-count zero = refl
+ready-count (suc n) = lt-ltb 0 (suc n) (omega arith)

@@ -2,3 +2,4 @@ pub mod Numbers
 pub mod Waiting
 pub mod Taking
 pub mod Counts
+pub mod Entries

@@ -78,10 +78,10 @@ drop-more ids i h = drop-cons ids i 0 h ∙ ap (λ j. get_or ids i 0 ∷ drop j 
     one : suc i ≡ i + 1
     one = omega arith
 
-pub stands_in-more : (prio : ℕ → ℕ) (task p : ℕ) (ids : List ℕ) (i : ℕ) (lists now : List (List ℕ)) → i < length ids → now ≡ update_list lists (get_or ids i 0) (λ xs. insert xs (wait_place prio p xs) task)
-    → stands_in prio task p (drop (i + 1) ids) now ≡ stands_in prio task p (drop i ids) lists
-stands_in-more prio task p ids i lists now h e =
-    ap (stands_in prio task p (drop (i + 1) ids)) e ∙ sym (ap (λ os. stands_in prio task p os lists) (drop-more ids i h))
+pub stands_in-more : (prio : ℕ → ℕ) (task p : ℕ) (ids : List ℕ) (i : ℕ) (lists now whole : List (List ℕ)) → i < length ids → now ≡ update_list lists (get_or ids i 0) (λ xs. insert xs (wait_place prio p xs) task)
+    → stands_in prio task p (drop i ids) lists ≡ whole → stands_in prio task p (drop (i + 1) ids) now ≡ whole
+stands_in-more prio task p ids i lists now whole h e before =
+    ap (stands_in prio task p (drop (i + 1) ids)) e ∙ sym (ap (λ os. stands_in prio task p os lists) (drop-more ids i h)) ∙ before
 
 pub left_all-more : (task : ℕ) (ids : List ℕ) (i : ℕ) (lists now : List (List ℕ)) → i < length ids → now ≡ update_list lists (get_or ids i 0) (without task)
     → left_all task (drop (i + 1) ids) now ≡ left_all task (drop i ids) lists

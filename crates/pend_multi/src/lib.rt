@@ -3,9 +3,11 @@
 #![tactic(auto)]
 
 mod polls;
+mod results;
 mod waits;
 
-pub use polls::{Pollable, Taken, poll_all};
+pub use polls::{Pollable, Taken, any_ready, poll_all};
+pub use results::taken_result;
 pub use waits::{leave_others, wait_on};
 
 #[cfg(test)]

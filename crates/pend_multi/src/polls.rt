@@ -1,8 +1,8 @@
 // What polls of several objects give.
 
-ghost use Rattle.std.specs.Prelude.{◌≡◌, ◌<◌, ◌≤◌, ℕ, length, map, take, slice_index_or, None};
+ghost use Rattle.std.specs.Prelude.{◌≡◌, ◌<◌, ◌≤◌, ◌==◌, ℕ, not, length, map, take, slice_index_or, None, is_some};
 ghost use Rattle.kern_model.specs.State.{Kernel, object_at};
-ghost use Rattle.kern_model.specs.Several.{polled, polls, taken_from, taken_all};
+ghost use Rattle.kern_model.specs.Several.{polled, polls, taken_from, taken_all, taken_count};
 ghost use Rattle.pend_multi.specs.Polls.{PollRecord, IsSeen, AreIds};
 ghost use Rattle.pend_multi.specs.Takes.{message_of};
 
@@ -38,10 +38,31 @@ pub trait Pollable {
         ensures value { (k : Kernel) → IsSeen k (seen self.old) → message_of result ≡ polled (object_at k obj.0).content }
         ensures left { (k : Kernel) → IsSeen k (seen self.old) → IsSeen (taken_from obj.0 (object_at k obj.0).content k) (seen self.new) };
 
+    /// Whether a poll would take something. Nothing changes.
+    fn is_ready(&self, obj: ObjId) -> bool
+        requires valid { valid self.now }
+        requires number { obj.0 < 64 }
+        ensures { (k : Kernel) → IsSeen k (seen self.now) → result ≡ is_some (polled (object_at k obj.0).content) };
+
     // What is the same stays the same.
     ghost rest_itself: { (a : Self) → same_rest a a };
 
     ghost rest_later: { (a b c : Self) → same_rest a b → same_rest b c → same_rest a c };
+}
+
+/// Whether a poll of one of these objects would take something: `OSPendMulti` then takes, and else its
+/// caller waits. Nothing changes yet.
+pub fn any_ready<P: Pollable>(p: &P, ids: &[u8]) -> bool
+    requires valid { P.valid p.now }
+    requires ids { AreIds ids.now }
+    ensures { (k : Kernel) → IsSeen k (P.seen p.now) → result ≡ not (taken_count (polls ids.now k) == 0) }
+{
+    for id in ids {
+        if p.is_ready(ObjId(*id)) {
+            return true;
+        }
+    }
+    false
 }
 
 /// What polls of these objects give, in their order; None in the places past the last.

@@ -3,8 +3,8 @@
 ghost use Rattle.std.specs.Prelude.{◌≡◌, length, map};
 ghost use Rattle.kern_model.specs.State.{Count};
 
-use crate::{Pollable, Taken, leave_others, poll_all, wait_on};
-use kern_base::{ObjId, Prio, TaskId};
+use crate::{Pollable, Taken, any_ready, leave_others, poll_all, taken_result, wait_on};
+use kern_base::{ObjId, OsErr, Prio, Request, Service, TaskId};
 use links::IndexLinks;
 use pend_lists::PendLists;
 use std::test::Fail;
@@ -31,6 +31,10 @@ impl Pollable for Counts {
         Some(Taken { msg: 0, size: 0 })
     }
 
+    fn is_ready(&self, obj: ObjId) -> bool {
+        self.counts[obj.0 as usize] > 0
+    }
+
     ghost rest_itself = { λ a. tt };
 
     ghost rest_later = { λ a b c first second. tt };
@@ -41,6 +45,8 @@ fn polls_take_one_of_each_that_is_ready(rt: HostRuntime) {
     let mut counts = Counts { counts: [0; 64] };
     counts.counts[4] = 2;
     counts.counts[9] = 1;
+    assert!(rt; any_ready(&counts, &[7, 4]));
+    assert!(rt; !any_ready(&counts, &[7, 8]));
     let one = Some(Taken { msg: 0, size: 0 });
     let polled = poll_all(&mut counts, &[4, 7, 9]);
     assert_eq!(rt; polled, [one, None, one, None, None, None, None, None]);
@@ -50,6 +56,33 @@ fn polls_take_one_of_each_that_is_ready(rt: HostRuntime) {
     );
     let polled = poll_all(&mut counts, &[9, 4]);
     assert_eq!(rt; polled, [None, one, None, None, None, None, None, None]);
+}
+
+#[test]
+fn a_result_tells_the_entries_that_were_taken(rt: HostRuntime) {
+    let request = Request {
+        service: Service::PendMulti,
+        args: [1_048_576, 3, 0, 0],
+        ids: [0, 1, 2, 0, 0, 0, 0, 0],
+        n_ids: 3,
+        table: true,
+    };
+    let mut polled = [None; 8];
+    polled[0] = Some(Taken { msg: 0, size: 0 });
+    polled[2] = Some(Taken { msg: 77, size: 4 });
+    let result = taken_result(&request, &polled);
+    assert_eq!(rt;
+        (result.answer.err, result.answer.value),
+        (OsErr::NoError, 2)
+    );
+    assert_eq!(rt;
+        (result.ready, result.table, result.n_ids),
+        (5, 1_048_576, 3)
+    );
+    assert_eq!(rt;
+        (result.msgs[0], result.msgs[1], result.msgs[2]),
+        ((0, 0), (0, 0), (77, 4))
+    );
 }
 
 #[test]

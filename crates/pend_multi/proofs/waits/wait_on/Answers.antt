@@ -40,25 +40,29 @@ loop-index-preserved g c =
     let count = c.consistent-in-loop-index.ensures.forward.count in
     let own : n / 8 ≡ task = ap (λ m. m / 8) c.node_of.ensures.node ∙ task-node task i (omega arith) in
     let zero : Prio = record { 0 = 0 } in
+    let place = wait_place (prio_by prios zero) (get_or prios task zero).0 (list_at lists o) in
     let at = c.join.ensures.forward zero in
     record {
       whole = sym c.join.ensures.whole;
       waits = λ blank.
           let p : (get_or prios task zero).0 ≡ prio_in prios blank task = ap (λ (q : Prio). q.0) (get_or_default prios task zero blank (omega arith)) in
           let e : new ≡ inserted lists o (wait_place (prio_by prios blank) (prio_in prios blank task) (list_at lists o)) n = rw (← p) (c.join.ensures.forward blank) in
-          stands_in-more (prio_in prios blank) task (prio_in prios blank task) ids i (tasks_in lists) (tasks_in new) h (tasks-joined prios blank (prio_in prios blank task) lists new o n task own e) ∙ inv.waits blank;
+          let prio = prio_in prios blank in
+          let whole = stands_in prio task (prio task) ids (tasks_in c.args.lists.now.forward) in
+          let joins = tasks-joined prios blank (prio task) lists new o n task own e in
+          stands_in-more prio task (prio task) ids i (tasks_in lists) (tasks_in new) whole h joins (inv.waits blank);
       nodes = λ j from less.
           let other : n ≢ node_for task j = λ e. absurd (omega (arith, e, c.node_of.ensures.node)) in
-          joined-node lists new o _ n (node_for task j) (omega arith) other at ∙ inv.nodes j (omega arith) less;
+          joined-node lists new o place n (node_for task j) (omega arith) other at ∙ inv.nodes j (omega arith) less;
       absent = λ j from inside.
-          let same = other-joined lists new o _ n (get_or ids j 0) (λ t. apart ids j i c.requires.ids.different (omega arith) inside (sym t)) at in
+          let same = other-joined lists new o place n (get_or ids j 0) (λ t. apart ids j i c.requires.ids.different (omega arith) inside (sym t)) at in
           rw same (inv.absent j (omega arith) inside);
       stands = λ j before. elim (eqb_tells j i) [
         | inl e ↦
-            let here = stands-joined lists new o _ n (omega arith) at in
+            let here = stands-joined lists new o place n (omega arith) at in
             subst (λ k. 0 < times (node_for task k) (list_at new (get_or ids k 0))) (sym e.1) (subst (λ m. 0 < times m (list_at new o)) c.node_of.ensures.node here)
         | inr e ↦
-            let same = other-joined lists new o _ n (get_or ids j 0) (apart ids i j c.requires.ids.different (omega (arith, e.1)) h) at in
+            let same = other-joined lists new o place n (get_or ids j 0) (apart ids i j c.requires.ids.different (omega (arith, e.1)) h) at in
             rw same (inv.stands j (omega (arith, e.1)))
       ];
     }
@@ -67,4 +71,6 @@ pub returns-clause-waiters : goal.returns-clause-waiters
 returns-clause-waiters g c = λ blank.
     let prio = prio_in c.args.prios.now blank in
     let none : drop c.loop-index.index c.args.ids.now ≡ [] = drop_of_length-le c.args.ids.now (omega arith) in
-    sym (ap (λ os. stands_in prio c.args.task.0 (prio c.args.task.0) os (tasks_in c.loop-index.lists.forward)) none) ∙ c.loop-index.invariant.waits blank
+    let lists = tasks_in c.loop-index.lists.forward in
+    let done : stands_in prio c.args.task.0 (prio c.args.task.0) (drop c.loop-index.index c.args.ids.now) lists ≡ lists = rw none refl in
+    sym done ∙ c.loop-index.invariant.waits blank
