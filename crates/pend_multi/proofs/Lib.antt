@@ -3,3 +3,4 @@ pub mod Waiting
 pub mod Taking
 pub mod Counts
 pub mod Entries
+pub mod TableLaws

@@ -1,5 +1,5 @@
 -- The waiters of several objects, one after another.
-use Rattle.std.proofs.Common.{◌≡◌, ◌≢◌, ℕ, suc, ◌+◌, ◌/◌, ◌<◌, ◌≤◌, Bool, true, false, List, [], ◌∷◌, length, drop, insert, set, get_or, get_or-set_other, refl, sym, ap, ◌∙◌, arith, inl, inr, zero-add}
+use Rattle.std.proofs.Common.{◌≡◌, ◌≢◌, ℕ, suc, ◌+◌, ◌/◌, ◌<◌, ◌≤◌, Bool, true, false, List, [], ◌∷◌, length, drop, insert, set, get_or, get_or-set_other, refl, sym, ap, ◌∙◌, arith, inl, inr, zero-add, drop_of_length-le}
 use Rattle.std.specs.Prelude.{if◌then◌else◌, nat_le}
 use Rattle.std.proofs.Math.ListN.{get_or-map}
 use Rattle.std.proofs.Math.Seq.{drop-cons}
@@ -82,6 +82,10 @@ pub stands_in-more : (prio : ℕ → ℕ) (task p : ℕ) (ids : List ℕ) (i : �
     → stands_in prio task p (drop i ids) lists ≡ whole → stands_in prio task p (drop (i + 1) ids) now ≡ whole
 stands_in-more prio task p ids i lists now whole h e before =
     ap (stands_in prio task p (drop (i + 1) ids)) e ∙ sym (ap (λ os. stands_in prio task p os lists) (drop-more ids i h)) ∙ before
+
+-- all objects
+pub stands_in-all : (prio : ℕ → ℕ) (task : ℕ) (ids : List ℕ) (i : ℕ) (now first : List (List ℕ)) → length ids ≤ i → stands_in prio task (prio task) (drop i ids) now ≡ stands_in prio task (prio task) ids first → now ≡ stands_in prio task (prio task) ids first
+stands_in-all prio task ids i now first h e = sym (ap (λ os. stands_in prio task (prio task) os now) (drop_of_length-le ids h)) ∙ e
 
 pub left_all-more : (task : ℕ) (ids : List ℕ) (i : ℕ) (lists now : List (List ℕ)) → i < length ids → now ≡ update_list lists (get_or ids i 0) (without task)
     → left_all task (drop (i + 1) ids) now ≡ left_all task (drop i ids) lists

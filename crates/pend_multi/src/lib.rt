@@ -4,10 +4,12 @@
 
 mod polls;
 mod results;
+mod tables;
 mod waits;
 
 pub use polls::{Pollable, Taken, any_ready, poll_all};
 pub use results::taken_result;
+pub use tables::table_error;
 pub use waits::{leave_others, wait_on};
 
 #[cfg(test)]

@@ -3,8 +3,11 @@
 ghost use Rattle.std.specs.Prelude.{◌≡◌, length, map};
 ghost use Rattle.kern_model.specs.State.{Count};
 
-use crate::{Pollable, Taken, any_ready, leave_others, poll_all, taken_result, wait_on};
-use kern_base::{ObjId, OsErr, Prio, Request, Service, TaskId};
+use crate::{
+    Pollable, Taken, any_ready, leave_others, poll_all, table_error, taken_result, wait_on,
+};
+use arrayvec::ArrayVec;
+use kern_base::{Kind, Kinds, ObjId, OsErr, Prio, Request, Service, TaskId};
 use links::IndexLinks;
 use pend_lists::PendLists;
 use std::test::Fail;
@@ -60,13 +63,7 @@ fn polls_take_one_of_each_that_is_ready(rt: HostRuntime) {
 
 #[test]
 fn a_result_tells_the_entries_that_were_taken(rt: HostRuntime) {
-    let request = Request {
-        service: Service::PendMulti,
-        args: [1_048_576, 3, 0, 0],
-        ids: [0, 1, 2, 0, 0, 0, 0, 0],
-        n_ids: 3,
-        table: true,
-    };
+    let request = request(3, [0, 1, 2, 0, 0, 0, 0, 0], true);
     let mut polled = [None; 8];
     polled[0] = Some(Taken { msg: 0, size: 0 });
     polled[2] = Some(Taken { msg: 77, size: 4 });
@@ -83,6 +80,36 @@ fn a_result_tells_the_entries_that_were_taken(rt: HostRuntime) {
         (result.msgs[0], result.msgs[1], result.msgs[2]),
         ((0, 0), (0, 0), (77, 4))
     );
+}
+
+fn request(n_ids: u8, ids: [u32; 8], table: bool) -> Request
+    ensures { result.n_ids ≡ n_ids }
+{
+    Request {
+        service: Service::PendMulti,
+        args: [1_048_576, n_ids as u32, 0, 0],
+        ids,
+        n_ids,
+        table,
+    }
+}
+
+#[test]
+fn tables_are_refused(rt: HostRuntime) {
+    let mut objects = ArrayVec::new();
+    objects.push(Kind::Sem);
+    objects.push(Kind::Mutex);
+    objects.push(Kind::Queue);
+    let kinds = Kinds::new(objects, 1);
+    for (n_ids, ids, table, error) in [
+        (2, [2, 0, 0, 0, 0, 0, 0, 0], true, None),
+        (0, [0; 8], false, Some(OsErr::Table)),
+        (3, [2, 1, 2, 0, 0, 0, 0, 0], true, Some(OsErr::Table)),
+        (2, [0, 1, 0, 0, 0, 0, 0, 0], true, Some(OsErr::ObjectType)),
+        (2, [0, 3, 0, 0, 0, 0, 0, 0], true, Some(OsErr::ObjectType)),
+    ] {
+        assert_eq!(rt; table_error(&request(n_ids, ids, table), &kinds), error);
+    }
 }
 
 #[test]

@@ -1,4 +1,4 @@
-use Rattle.std.proofs.Common.{◌≡◌, ◌≢◌, ◌<◌, ◌/◌, ◌∙◌, [], sym, refl, ap, subst, get_or, arith, inl, inr, drop, drop_of_length-le}
+use Rattle.std.proofs.Common.{◌≡◌, ◌≢◌, ◌<◌, ◌/◌, ◌∙◌, sym, refl, ap, subst, get_or, arith, inl, inr}
 use Rattle.std.proofs.lemmas.Bool.Decides.{eqb_tells}
 use Rattle.std.proofs.lemmas.List.{get_or_default}
 use Rattle.kern_base.specs.declared.numbers.Prio.{Prio}
@@ -7,7 +7,7 @@ use Rattle.links.specs.Chain.{times, list_at, inserted}
 use Rattle.pend_lists.specs.Pending.{node_for, prio_by, wait_place}
 use Rattle.pend_multi.specs.Waits.{tasks_in, prio_in}
 use Rattle.pend_multi.proofs.Numbers.{apart}
-use Rattle.pend_multi.proofs.Waiting.{task-node, no-node, tasks-joined, other-joined, joined-node, stands-joined, stands_in-more}
+use Rattle.pend_multi.proofs.Waiting.{task-node, no-node, tasks-joined, other-joined, joined-node, stands-joined, stands_in-more, stands_in-all}
 use Rattle.pend_multi.proofs.waits.wait_on.Goals as goal
 
 pub loop-index-init : goal.loop-index-init
@@ -69,8 +69,4 @@ loop-index-preserved g c =
 
 pub returns-clause-waiters : goal.returns-clause-waiters
 returns-clause-waiters g c = λ blank.
-    let prio = prio_in c.args.prios.now blank in
-    let none : drop c.loop-index.index c.args.ids.now ≡ [] = drop_of_length-le c.args.ids.now (omega arith) in
-    let lists = tasks_in c.loop-index.lists.forward in
-    let done : stands_in prio c.args.task.0 (prio c.args.task.0) (drop c.loop-index.index c.args.ids.now) lists ≡ lists = rw none refl in
-    sym done ∙ c.loop-index.invariant.waits blank
+    stands_in-all (prio_in c.args.prios.now blank) c.args.task.0 c.args.ids.now c.loop-index.index (tasks_in c.loop-index.lists.forward) (tasks_in c.args.lists.now.forward) c.loop-index-test.false (c.loop-index.invariant.waits blank)
