@@ -1,0 +1,4 @@
+//! The law of the listing: it assembles back.
+#![tactic(auto)]
+
+mod law;
