@@ -5,3 +5,4 @@ pub mod Hexadecimals
 pub mod Rows
 pub mod Spelled
 pub mod Heads
+pub mod Bodies
