@@ -6,3 +6,5 @@ pub mod Rows
 pub mod Spelled
 pub mod Heads
 pub mod Bodies
+pub mod Named
+pub mod BodyPieces
