@@ -8,3 +8,4 @@ pub mod Heads
 pub mod Bodies
 pub mod Named
 pub mod BodyPieces
+pub mod Items
