@@ -13,6 +13,7 @@ use Rattle.text_lex.specs.Division.{Part, Blank, Lexeme}
 use Rattle.text_lex.specs.declared.Token.{Token}
 use Rattle.text_lex.specs.declared.TokenKind.TheVariants as kind
 use Rattle.app_image.specs.Image.{no_callback}
+use Rattle.app_image.specs.Held.{HasWordTask, HasWordVector}
 use Rattle.app_image.specs.declared.records.TaskDef.{TaskDef}
 use Rattle.app_image.specs.declared.records.ObjDef.{ObjDef}
 use Rattle.app_image.specs.declared.records.VectorDef.{VectorDef}
@@ -110,10 +111,10 @@ abbrev pub IsItem : Item → Type 0
 IsItem (Turned s) = IsSection s
 IsItem (Coded address body) = (address < 65536) × IsBody body
 IsItem (Stored w) = w < 2 ^ 32
-IsItem (Declared o) = is_name o.name ≡ true
-IsItem (Tasked t) = is_name t.name ≡ true
-IsItem (Vectored v) = Unit {0}
-IsItem (Set n key value) = (is_name n ≡ true) × (key_of n ≡ Some key)
+IsItem (Declared o) = (is_name o.name ≡ true) × ((i : ℕ) → slice_index o.f i < 2 ^ 32)
+IsItem (Tasked t) = (is_name t.name ≡ true) × HasWordTask t
+IsItem (Vectored v) = HasWordVector v
+IsItem (Set n key value) = (is_name n ≡ true) × (key_of n ≡ Some key) × (value < 2 ^ 32)
 
 abbrev pub HasLabel : List ℕ → Item → Option Span → Type 0
 HasLabel text (Coded address body) l = (n : Spells text (label address)) × (l ≡ Some n.span)

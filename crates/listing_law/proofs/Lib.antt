@@ -9,3 +9,4 @@ pub mod Bodies
 pub mod Named
 pub mod BodyPieces
 pub mod Items
+pub mod ItemPieces
