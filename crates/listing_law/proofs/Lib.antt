@@ -10,3 +10,4 @@ pub mod Named
 pub mod BodyPieces
 pub mod Items
 pub mod ItemPieces
+pub mod Readings
