@@ -11,3 +11,4 @@ pub mod BodyPieces
 pub mod Items
 pub mod ItemPieces
 pub mod Readings
+pub mod Words
