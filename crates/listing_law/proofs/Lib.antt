@@ -12,3 +12,4 @@ pub mod Items
 pub mod ItemPieces
 pub mod Readings
 pub mod Words
+pub mod Listed
