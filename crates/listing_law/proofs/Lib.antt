@@ -13,3 +13,4 @@ pub mod ItemPieces
 pub mod Readings
 pub mod Words
 pub mod Listed
+pub mod Fitting
