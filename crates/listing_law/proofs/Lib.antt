@@ -14,3 +14,4 @@ pub mod Readings
 pub mod Words
 pub mod Listed
 pub mod Fitting
+pub mod Early

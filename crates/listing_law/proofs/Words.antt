@@ -121,7 +121,7 @@ le_int (pos a) (negsuc b) h = absurd (omega (arith, ints, h))
 le_int (negsuc a) (pos b) h = refl
 le_int (negsuc a) (negsuc b) h = le-leb b a (omega (arith, ints, h))
 
-within : (least greatest imm : ℤ) → least ≤ℤ imm → imm ≤ℤ greatest → is_within least greatest imm ≡ true
+pub within : (least greatest imm : ℤ) → least ≤ℤ imm → imm ≤ℤ greatest → is_within least greatest imm ≡ true
 within least greatest imm l h = and_from (int_le least imm) (int_le imm greatest) (le_int least imm l) (le_int imm greatest h)
 
 branch_far : (imm : ℤ) → IsBranchOffset imm → branch_reaches imm ≡ true
