@@ -7,10 +7,13 @@ use Rattle.std.proofs.lemmas.Bool.{or_from, and_from, eq-eqb, lt-ltb, le-leb, lt
 use Rattle.kern_base.specs.declared.kinds.Kind.{Kind}
 use Rattle.kern_base.specs.declared.kinds.Kind.TheVariants as k
 use Rattle.text_lex.specs.declared.Token.{Token}
+use Rattle.app_image.specs.declared.records.TaskDef.{TaskDef}
+use Rattle.app_image.specs.declared.records.VectorDef.{VectorDef}
+use Rattle.app_image.specs.declared.settings.ConfigKey.{ConfigKey}
 use Rattle.rv32_asm.specs.Pieces.{spelling}
 use Rattle.rv32_asm.specs.Names.{Names, definition, meaning}
 use Rattle.rv32_asm.specs.Operands.{registers_in, constant_in, listed, fits_low}
-use Rattle.rv32_asm.specs.Causes.{is_register, constant_fits, is_label_of, label_again, name_again, is_statement_of, is_undefined, stands_for_nothing, has_undefined, is_label, is_constant, is_short, has_early, early_causes, is_early}
+use Rattle.rv32_asm.specs.Causes.{is_register, constant_fits, is_label_of, label_again, name_again, is_statement_of, is_undefined, stands_for_nothing, has_undefined, is_label, is_constant, is_instruction, is_placed, is_misplaced, is_short, has_early, early_causes, is_early}
 use Rattle.rv32_asm.specs.Places.{size_of}
 use Rattle.rv32_asm.specs.declared.pieces.Span.{Span}
 use Rattle.rv32_asm.specs.declared.pieces.Operand.{Operand}
@@ -18,7 +21,7 @@ use Rattle.rv32_asm.specs.declared.pieces.Operand.TheVariants.{Number}
 use Rattle.rv32_asm.specs.declared.mnemonics.Section.{Section}
 use Rattle.rv32_asm.specs.declared.mnemonics.Section.TheVariants as section
 use Rattle.rv32_asm.specs.declared.statements.Statement.{Statement}
-use Rattle.rv32_asm.specs.declared.statements.Statement.TheVariants.{Section as Sections, Registers, Immediate, Shift, Store, Branch, Upper, Jump, Alone, Words, Task, Object, Vector, Setting}
+use Rattle.rv32_asm.specs.declared.statements.Statement.TheVariants.{Section as Sections, Registers, Immediate, Shift, Store, Branch, Upper, Jump, Alone, Words, Space, Task, Object, Vector, Setting}
 use Rattle.rv32_asm.specs.declared.statements.Line.{Line}
 use Rattle.rv32_asm.specs.declared.places.Counts.{Counts}
 use Rattle.rv32_asm.specs.declared.places.Meaning.{Meaning}
@@ -28,7 +31,7 @@ use Rattle.rv32_asm.proofs.CauseLaws.{NoneOf}
 use Rattle.rv32_listing.specs.Texts.{label}
 use Rattle.listing_law.proofs.Words.{within}
 use Rattle.listing_law.proofs.Bodies.{Body, OnRegisters, OnImmediate, OnLoad, OnShift, OnStore, OnBranch, OnUpper, OnJump, OnAlone, OnWord, IsBody, Spells, IsStatement}
-use Rattle.listing_law.proofs.Items.{Item, Turned, Coded, Stored, Declared, Tasked, Vectored, Set, object_operands, Means}
+use Rattle.listing_law.proofs.Items.{Item, Turned, Coded, Stored, Declared, Tasked, Vectored, Set, object_operands, task_operands, vector_operands, Means}
 
 -- the target of a branch or a jump is a label
 abbrev pub HasTarget : Names → Body → Type 0
@@ -113,3 +116,64 @@ module _ (text : List ℕ) (tokens : List Token) (names : Names) (c : Counts) wh
   body_none n address (OnWord w) at s e t ok known =
       subst (AreNone n section.Code (Some at.span)) (sym e.1)
       (refl, (refl, (refl, (refl, (or_none _ (label_first address at known), (ap (list_any (stands_for_nothing text names)) e.2, (refl, (refl, (refl, (refl, (refl, tt)))))))))))
+
+  stored_none : (n w : ℕ) (s : Statement) → IsStatement text tokens (OnWord w) s → AreNone n section.Ram None s
+  stored_none n w s e =
+      subst (AreNone n section.Ram None) (sym e.1)
+      (refl, (refl, (refl, (refl, (refl, (ap (list_any (stands_for_nothing text names)) e.2, (refl, (refl, (refl, (refl, (refl, tt)))))))))))
+
+  turned_none : (n : ℕ) (at to : Section) → AreNone n at None (Sections to)
+  turned_none n section.Nowhere to = (refl, (refl, (refl, (refl, (refl, (refl, (refl, (refl, (refl, (refl, (refl, tt)))))))))))
+  turned_none n section.Code to = (refl, (refl, (refl, (refl, (refl, (refl, (refl, (refl, (refl, (refl, (refl, tt)))))))))))
+  turned_none n section.Ram to = (refl, (refl, (refl, (refl, (refl, (refl, (refl, (refl, (refl, (refl, (refl, tt)))))))))))
+
+  operands_known : (kind : Kind) (f : List ℕ) → list_any (stands_for_nothing text names) (object_operands kind f) ≡ false
+  operands_known k.Sem f = refl
+  operands_known k.Queue f = refl
+  operands_known k.Flags f = refl
+  operands_known k.Mutex f = refl
+  operands_known k.OneShot f = refl
+  operands_known k.Periodic f = refl
+
+  short_name : (bytes : List ℕ) (n : Spells text bytes) → 1 ≤ length bytes → length bytes ≤ 16 → not (is_short (spelling text n.span)) ≡ false
+  short_name bytes n some short =
+      ap (λ b. not (is_short b)) n.same ∙ not_true (is_short bytes) (and_from (nat_le 1 (length bytes)) (nat_le (length bytes) 16) (le-leb 1 (length bytes) some) (le-leb (length bytes) 16 short))
+
+  misplaced : (at : Section) (s : Statement) → is_placed s ≡ false → is_misplaced at None s ≡ false
+  misplaced section.Nowhere s e = e
+  misplaced section.Code s e = refl
+  misplaced section.Ram s e = no_instruction s e
+    where
+      no_instruction : (s : Statement) → is_placed s ≡ false → is_instruction s ≡ false
+      no_instruction (Words at count) e = refl
+      no_instruction (Space o) e = refl
+      no_instruction s e = e
+
+  object_none : (n : ℕ) (at : Section) (bytes : List ℕ) (kind : Kind) (f : List ℕ) (m : Spells text bytes) → names bytes ≡ Some (definition c (Constant (pos c.objects)))
+      → c.objects < 64 → 1 ≤ length bytes → length bytes ≤ 16 → AreNone n at None (Object m.span kind (object_operands kind f))
+  object_none n at bytes kind f m known few some short =
+      (refl, (refl, (refl, (refl, (name_first bytes m (pos c.objects) known, (operands_known kind f, (refl, (misplaced at (Object m.span kind (object_operands kind f)) refl, (short_name bytes m some short, (refl, (lt-leb 64 c.objects few, tt)))))))))))
+
+  task_none : (n : ℕ) (at : Section) (t : TaskDef) (m : Spells text t.name) → names t.name ≡ Some (definition c (Constant (pos c.tasks)))
+      → c.tasks < 60 → 1 ≤ length t.name → length t.name ≤ 16 → AreNone n at None (Task m.span (task_operands t))
+  task_none n at t m known few some short =
+      (refl, (refl, (refl, (refl, (name_first t.name m (pos c.tasks) known, (refl, (refl, (misplaced at (Task m.span (task_operands t)) refl, (short_name t.name m some short, (refl, (lt-leb 60 c.tasks few, tt)))))))))))
+
+  vector_none : (n : ℕ) (at : Section) (v : VectorDef) → c.vectors < 32 → AreNone n at None (Vector (vector_operands v))
+  vector_none n at v few = (refl, (refl, (refl, (refl, (refl, (refl, (refl, (misplaced at (Vector (vector_operands v)) refl, (refl, (refl, (lt-leb 32 c.vectors few, tt)))))))))))
+
+  setting_none : (n : ℕ) (at : Section) (key : ConfigKey) (value : ℕ) → AreNone n at None (Setting (Some key) (Number (pos value)))
+  setting_none n at key value = (refl, (refl, (refl, (refl, (refl, (refl, (refl, (misplaced at (Setting (Some key) (Number (pos value))) refl, (refl, (refl, (refl, tt)))))))))))
+
+  -- the line of an item
+  item_none : (n : ℕ) (at : Section) (item : Item) (l : Line) → Means text tokens n item l → IsCalm names c at item → AreNone l.number at l.label l.statement
+  item_none n at (Turned to) l m h = rw (m.label, m.says) (turned_none l.number at to)
+  item_none n at (Coded address body) l m h = rw (h.0, m.label.1) (body_none l.number address body m.label.0 l.statement m.says h.2 h.3 h.1)
+  item_none n at (Stored w) l m h = rw (h, m.label) (stored_none l.number w l.statement m.says)
+  item_none n at (Declared o) l m h = rw (m.label, m.says.1) (object_none l.number at o.name o.kind o.f m.says.0 h.0 h.1 h.2 h.3)
+  item_none n at (Tasked t) l m h = rw (m.label, m.says.1) (task_none l.number at t m.says.0 h.0 h.1 h.2 h.3)
+  item_none n at (Vectored v) l m h = rw (m.label, m.says) (vector_none l.number at v h)
+  item_none n at (Set name key value) l m h = rw (m.label, m.says) (setting_none l.number at key value)
+
+  pub item_early : (n : ℕ) (at : Section) (item : Item) (l : Line) → Means text tokens n item l → IsCalm names c at item → is_early text tokens names c at l ≡ false
+  item_early n at item l m h = none_any (has_early text tokens names c at l) early_causes (item_none n at item l m h)
