@@ -15,3 +15,4 @@ pub mod Words
 pub mod Listed
 pub mod Fitting
 pub mod Early
+pub mod ItemSteps
