@@ -16,3 +16,4 @@ pub mod Listed
 pub mod Fitting
 pub mod Early
 pub mod ItemSteps
+pub mod Giving
