@@ -17,3 +17,4 @@ pub mod Fitting
 pub mod Early
 pub mod ItemSteps
 pub mod Giving
+pub mod Assembling
