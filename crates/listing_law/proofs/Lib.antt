@@ -18,3 +18,4 @@ pub mod Early
 pub mod ItemSteps
 pub mod Giving
 pub mod Assembling
+pub mod Known
