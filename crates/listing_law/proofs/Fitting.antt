@@ -48,7 +48,7 @@ back : {T : Type 0} (P : T → Type 0) (xs ys : List T) → AllByRecursion P (xs
 back P [] ys h = h
 back P (x ∷ xs) ys h = back P xs ys h.1
 
-unmapped : {T U : Type 0} (f : T → U) (P : U → Type 0) (ts : List T) → AllByRecursion P (map f ts) → AllByRecursion (λ t. P (f t)) ts
+pub unmapped : {T U : Type 0} (f : T → U) (P : U → Type 0) (ts : List T) → AllByRecursion P (map f ts) → AllByRecursion (λ t. P (f t)) ts
 unmapped f P [] h = tt
 unmapped f P (t ∷ ts) h = (h.0, unmapped f P ts h.1)
 
@@ -62,7 +62,7 @@ object_names image v =
     let all = recursion_from_All IsFreeName (names_of image.tasks image.objects) v.names in
     unmapped (λ o. o.name) IsFreeName image.objects (back IsFreeName (map (λ t. t.name) image.tasks) (map (λ o. o.name) image.objects) all)
 
-field_fits : (f : List ℕ) → AllByRecursion IsWord f → (i : ℕ) → slice_index f i < 2 ^ 32
+pub field_fits : (f : List ℕ) → AllByRecursion IsWord f → (i : ℕ) → slice_index f i < 2 ^ 32
 field_fits [] h i = omega arith
 field_fits (x ∷ f) h zero = h.0
 field_fits (x ∷ f) h (suc i) = field_fits f h.1 i

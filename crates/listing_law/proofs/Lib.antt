@@ -19,3 +19,4 @@ pub mod ItemSteps
 pub mod Giving
 pub mod Assembling
 pub mod Known
+pub mod Sound
