@@ -20,3 +20,4 @@ pub mod Giving
 pub mod Assembling
 pub mod Known
 pub mod Sound
+pub mod Lined
