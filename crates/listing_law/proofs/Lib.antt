@@ -21,3 +21,4 @@ pub mod Assembling
 pub mod Known
 pub mod Sound
 pub mod Lined
+pub mod Checked
