@@ -22,3 +22,4 @@ pub mod Known
 pub mod Sound
 pub mod Lined
 pub mod Checked
+pub mod Lengths
