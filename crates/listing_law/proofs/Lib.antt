@@ -23,3 +23,4 @@ pub mod Sound
 pub mod Lined
 pub mod Checked
 pub mod Lengths
+pub mod Whole

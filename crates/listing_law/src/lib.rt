@@ -1,4 +1,6 @@
 //! The law of the listing: it assembles back.
 #![tactic(auto)]
 
-mod law;
+mod laws;
+
+pub use laws::listing_assembles_back;
