@@ -1,22 +1,20 @@
 -- A text of items is assembled to what the items give, where their names and places are known.
-use Rattle.std.proofs.Common.{◌≡◌, ℕ, zero, suc, ◌+◌, List, [], ◌∷◌, ◌++◌, length, Bool, true, false, refl, sym, ap, subst, ◌∙◌}
+use Rattle.std.proofs.Common.{◌≡◌, ℕ, ◌+◌, List, [], ◌∷◌, ◌++◌, length, refl, ap, ◌∙◌}
 use Rattle.text_lex.specs.declared.Token.{Token}
 use Rattle.app_image.specs.Raw.{RawRecord}
-use Rattle.rv32_asm.specs.Names.{Names, Defined, defined_at_start, defines, first_of}
+use Rattle.rv32_asm.specs.Names.{Names, Defined, defined_at_start, first_of}
 use Rattle.rv32_asm.specs.Operands.{no_place}
-use Rattle.rv32_asm.specs.Causes.{is_early}
-use Rattle.rv32_asm.specs.Refusal.{cause_of}
-use Rattle.rv32_asm.specs.Lines.{Reading, read}
-use Rattle.rv32_asm.specs.Assembly.{Assembly, Gives}
+use Rattle.rv32_asm.specs.Lines.{read}
+use Rattle.rv32_asm.specs.Assembly.{Gives}
 use Rattle.rv32_asm.specs.Assembled.{assembled}
-use Rattle.rv32_asm.specs.Steps.{no_counts, counted, all_defined, names_of, place_after, places_from, places_of, with_statement, assembled_from, empty_image, assembled_lines, assembled_by_steps}
+use Rattle.rv32_asm.specs.Steps.{no_counts, counted, all_defined, names_of, place_after, places_from, places_of, with_statement, assembled_from, empty_image}
 use Rattle.rv32_asm.specs.declared.statements.Line.{Line}
 use Rattle.rv32_asm.specs.declared.places.Counts.{Counts}
 use Rattle.rv32_asm.specs.declared.places.Place.{Place}
 use Rattle.rv32_asm.proofs.CauseLaws.{assembled_from-free}
 use Rattle.rv32_asm.proofs.StepLaws.{same_assembled}
 use Rattle.listing_law.proofs.Parts.{flat}
-use Rattle.listing_law.proofs.Items.{Item, Means}
+use Rattle.listing_law.proofs.Items.{Item}
 use Rattle.listing_law.proofs.Readings.{items_parts, items_tokens, AreItems, MeanAll, IsReadAs, text_read}
 use Rattle.listing_law.proofs.Early.{IsCalm, item_early}
 use Rattle.listing_law.proofs.ItemSteps.{item_counted, counted_item, item_placed, placed_item, item_defines, defined_item}

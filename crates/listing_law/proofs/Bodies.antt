@@ -1,6 +1,6 @@
 -- The statements of code words: their parts, and what they are to the assembler.
-use Rattle.std.proofs.Common.{◌≡◌, ℕ, zero, suc, ◌+◌, ◌<◌, ◌≤◌, ◌^◌, List, [], ◌∷◌, ◌++◌, length, take, drop, map, Bool, true, false, arith, refl, sym, ap, ◌∙◌, ℤ, pos}
-use Rattle.std.specs.Prelude.{Option, Some, None}
+use Rattle.std.proofs.Common.{◌≡◌, ℕ, ◌+◌, ◌<◌, ◌^◌, List, [], ◌∷◌, ◌++◌, length, take, drop, map, true, false, refl, sym, ap, ◌∙◌, ℤ, pos}
+use Rattle.std.specs.Prelude.{Option, Some}
 use Rattle.std.specs.Fmt.{signed_decimal}
 use Rattle.std.proofs.lemmas.List.{drop-drop}
 use Rattle.text_lex.specs.Division.{Part, Blank, Lexeme}
@@ -14,7 +14,6 @@ use Rattle.rv32_asm.specs.Registers.{register_number}
 use Rattle.rv32_asm.specs.Forms.{form}
 use Rattle.rv32_asm.specs.Lines.{formed, headed, statement_of}
 use Rattle.rv32_asm.specs.declared.pieces.Span.{Span}
-use Rattle.rv32_asm.specs.declared.pieces.Operand.{Operand}
 use Rattle.rv32_asm.specs.declared.pieces.Operand.TheVariants.{Number, Named}
 use Rattle.rv32_asm.specs.declared.pieces.Piece.{Piece}
 use Rattle.rv32_asm.specs.declared.pieces.Piece.TheVariants.{Is, Dotted}
@@ -182,7 +181,7 @@ module _ (text : List ℕ) (tokens : List Token) (place line at : ℕ) where
   body_read (OnBranch op rs1 rs2 to) ok h t = (
     record { span = span (place + length (branch_mnemonic op) + 1 + length (register rs1) + 1 + 1 + length (register rs2) + 1 + 1) (label to); same = h.1.1.1.1.1.0 },
     headed_here text at (span place (branch_mnemonic op)) (branch_mnemonic op) (head.Branch op) (behind (branch_mnemonic op) (operand_parts (OnBranch op rs1 rs2 to))) h.0 (branch_head op)
-    ∙ two (λ s t. Branch op s t (span (place + length (branch_mnemonic op) + 1 + length (register rs1) + 1 + 1 + length (register rs2) + 1 + 1) (label to))) _ _ (Some rs1) (Some rs2) (is_register _ rs1 h.1.0 ok.0) (is_register _ rs2 h.1.1.1.0 ok.1),
+        ∙ two (λ s t. Branch op s t (span (place + length (branch_mnemonic op) + 1 + length (register rs1) + 1 + 1 + length (register rs2) + 1 + 1) (label to))) _ _ (Some rs1) (Some rs2) (is_register _ rs1 h.1.0 ok.0) (is_register _ rs2 h.1.1.1.0 ok.1),
   )
   body_read (OnUpper op rd imm) ok h t =
       headed_here text at (span place (upper_mnemonic op)) (upper_mnemonic op) (head.Upper op) (behind (upper_mnemonic op) (operand_parts (OnUpper op rd imm))) h.0 (upper_head op)
@@ -190,7 +189,7 @@ module _ (text : List ℕ) (tokens : List Token) (place line at : ℕ) where
   body_read (OnJump rd to) ok h t = (
     record { span = span (place + length jump_mnemonic + 1 + length (register rd) + 1 + 1) (label to); same = h.1.1.1.0 },
     headed_here text at (span place jump_mnemonic) jump_mnemonic head.Jump (behind jump_mnemonic (operand_parts (OnJump rd to))) h.0 jump_head
-    ∙ ap (λ d. Jump d (span (place + length jump_mnemonic + 1 + length (register rd) + 1 + 1) (label to))) (is_register _ rd h.1.0 ok.0),
+        ∙ ap (λ d. Jump d (span (place + length jump_mnemonic + 1 + length (register rd) + 1 + 1) (label to))) (is_register _ rd h.1.0 ok.0),
   )
   body_read (OnAlone op) ok h t = headed_here text at (span place (alone_mnemonic op)) (alone_mnemonic op) (head.Alone op) [] h.0 (alone_head op)
   body_read (OnWord w) ok h t = (

@@ -1,8 +1,7 @@
 -- The parts of the statements of code words are read as pieces.
-use Rattle.std.proofs.Common.{◌≡◌, ℕ, zero, suc, ◌+◌, ◌<◌, ◌≤◌, ◌^◌, List, [], ◌∷◌, ◌++◌, true, false, arith, refl, ℤ, pos, negsuc}
+use Rattle.std.proofs.Common.{ℕ, ◌<◌, List, [], ◌∷◌, ◌++◌, arith, refl, ℤ}
 use Rattle.std.proofs.lemmas.Int.{ints}
-use Rattle.text_lex.specs.Division.{Part, Blank, Lexeme, BeginsNoName}
-use Rattle.text_lex.specs.declared.TokenKind.TheVariants as kind
+use Rattle.text_lex.specs.Division.{Part, BeginsNoName}
 use Rattle.rv32_isa.specs.Listing.{IsImmediate12, IsUpper, IsShift}
 use Rattle.rv32_asm.specs.Mnemonics.{register_mnemonic, immediate_mnemonic, shift_mnemonic, store_mnemonic, branch_mnemonic, upper_mnemonic, alone_mnemonic, jump_mnemonic}
 use Rattle.rv32_listing.specs.Texts.{label, register}
@@ -10,7 +9,7 @@ use Rattle.listing_law.proofs.Parts.{flat, IsPiece, ArePieces}
 use Rattle.listing_law.proofs.TokensRead.{name_read, directive_read, signed_read}
 use Rattle.listing_law.proofs.Hexadecimals.{hexadecimal_read}
 use Rattle.listing_law.proofs.Named.{register_named, immediate_named, shift_named, store_named, branch_named, upper_named, alone_named, number_named, label_named}
-use Rattle.listing_law.proofs.Bodies.{Body, OnRegisters, OnImmediate, OnLoad, OnShift, OnStore, OnBranch, OnUpper, OnJump, OnAlone, OnWord, word_bytes, name, number, word, reg, first_part, operand_parts, body_parts, IsBody}
+use Rattle.listing_law.proofs.Bodies.{Body, OnRegisters, OnImmediate, OnLoad, OnShift, OnStore, OnBranch, OnUpper, OnJump, OnAlone, OnWord, name, number, reg, operand_parts, body_parts, IsBody}
 
 module _ (rest : List ℕ) (b : BeginsNoName rest) where
   pub reg_piece : (n : ℕ) → n < 32 → IsPiece (reg n) rest

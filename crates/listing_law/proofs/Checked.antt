@@ -1,23 +1,22 @@
 -- The check of an image does not look at the numbers of lines, where nothing is refused.
-use Rattle.std.proofs.Common.{◌≡◌, ℕ, zero, suc, ◌+◌, ◌<◌, ◌≤◌, List, [], ◌∷◌, ◌++◌, length, map, Bool, true, false, cond, arith, refl, sym, ap, subst, ◌∙◌, append_assoc}
-use Rattle.std.specs.Prelude.{Option, Some, None, Result, Ok, ◌==◌, ◌||◌, if◌then◌else◌}
+use Rattle.std.proofs.Common.{◌≡◌, ℕ, List, [], ◌∷◌, ◌++◌, length, map, Bool, true, false, cond, refl, sym, ap, ◌∙◌}
+use Rattle.std.specs.Prelude.{Option, Some, None, Ok, ◌==◌, ◌||◌, if◌then◌else◌}
 use Rattle.std.specs.Option.{option_map, option_or}
 use Rattle.std.specs.List.{find, list_any, AllByRecursion}
 use Rattle.app_image.specs.Image.{ImageRecord, IsValidImage, image_of}
 use Rattle.app_image.specs.Raw.{RawRecord}
-use Rattle.app_image.specs.RoundTrip.{unlined_task, unlined_object, unlined_vector, unlined, setting_lines, stored}
+use Rattle.app_image.specs.RoundTrip.{unlined_task, unlined_object, unlined_vector, unlined, stored}
 use Rattle.app_image.specs.Settings.{key_number}
-use Rattle.app_image.specs.Refusal.{task_has, object_has, vector_has, setting_has, task_line, object_line, vector_line, setting_line, vector_twice, setting_twice, line_of_none, first_line, first_record, line_of, causes, refused_or, refusal_among, refusal, image_unless, checked}
+use Rattle.app_image.specs.Refusal.{task_has, object_has, vector_has, setting_has, task_line, object_line, vector_line, setting_line, vector_twice, setting_twice, line_of_none, first_record, line_of, causes, refused_or, refusal_among, refusal, image_unless, checked}
 use Rattle.app_image.specs.declared.causes.ImageCause.{ImageCause}
-use Rattle.app_image.specs.declared.causes.ImageCause.TheVariants.{NoTask, TaskPriority, CodeAddress, StackPointer, Quantum, TaskQueueSize, QueueSize, VectorNumber, VectorTwice, VectorLevel, TimerTime, SettingRange, SettingTwice, NoCode}
-use Rattle.app_image.specs.declared.causes.ImageError.{ImageError}
+use Rattle.app_image.specs.declared.causes.ImageCause.TheVariants.{TaskPriority, CodeAddress, StackPointer, Quantum, TaskQueueSize, QueueSize, VectorNumber, VectorLevel, TimerTime, SettingRange}
 use Rattle.app_image.specs.declared.records.TaskDef.{TaskDef}
 use Rattle.app_image.specs.declared.records.ObjDef.{ObjDef}
 use Rattle.app_image.specs.declared.records.VectorDef.{VectorDef}
 use Rattle.app_image.specs.declared.settings.ConfigLine.{ConfigLine}
 use Rattle.app_image.proofs.BackChecks.{refusal-stored}
 use Rattle.app_image.proofs.ValidLemmas.{all_pass}
-use Rattle.listing_law.proofs.Lined.{on_lines, task_on, object_on, vector_on, settings_on, lined_raw, off_lines}
+use Rattle.listing_law.proofs.Lined.{on_lines, task_on, object_on, vector_on, lined_raw, off_lines}
 
 found_by : {T : Type 0} (line : T → ℕ) (x y : T) (b : Bool) (more rest : Option T) → option_map line (cond b (Some y) more) ≡ None → (option_map line more ≡ None → option_map line rest ≡ None)
     → option_map line (cond b (Some x) rest) ≡ None
@@ -127,9 +126,34 @@ not_refused raw h =
     let a = all_pass causes (plain_raw raw) h in
     none_among causes raw (
       some_none unlined_task raw.tasks a.0,
-      (record_none TaskPriority raw a.1.0, (record_none CodeAddress raw a.1.1.0, (record_none StackPointer raw a.1.1.1.0, (record_none Quantum raw a.1.1.1.1.0, (record_none TaskQueueSize raw a.1.1.1.1.1.0,
-      (record_none QueueSize raw a.1.1.1.1.1.1.0, (record_none VectorNumber raw a.1.1.1.1.1.1.1.0, (vectors_none [] raw.vectors a.1.1.1.1.1.1.1.1.0, (record_none VectorLevel raw a.1.1.1.1.1.1.1.1.1.0,
-      (record_none TimerTime raw a.1.1.1.1.1.1.1.1.1.1.0, (record_none SettingRange raw a.1.1.1.1.1.1.1.1.1.1.1.0, (settings_none [] raw.config a.1.1.1.1.1.1.1.1.1.1.1.1.0, (a.1.1.1.1.1.1.1.1.1.1.1.1.1.0, tt))))))))))))),
+      (
+        record_none TaskPriority raw a.1.0,
+        (
+          record_none CodeAddress raw a.1.1.0,
+          (
+            record_none StackPointer raw a.1.1.1.0,
+            (
+              record_none Quantum raw a.1.1.1.1.0,
+              (
+                record_none TaskQueueSize raw a.1.1.1.1.1.0,
+                (
+                  record_none QueueSize raw a.1.1.1.1.1.1.0,
+                  (
+                    record_none VectorNumber raw a.1.1.1.1.1.1.1.0,
+                    (
+                      vectors_none [] raw.vectors a.1.1.1.1.1.1.1.1.0,
+                      (
+                        record_none VectorLevel raw a.1.1.1.1.1.1.1.1.1.0,
+                        (record_none TimerTime raw a.1.1.1.1.1.1.1.1.1.1.0, (record_none SettingRange raw a.1.1.1.1.1.1.1.1.1.1.1.0, (settings_none [] raw.config a.1.1.1.1.1.1.1.1.1.1.1.1.0, (a.1.1.1.1.1.1.1.1.1.1.1.1.1.0, tt)))),
+                      ),
+                    ),
+                  ),
+                ),
+              ),
+            ),
+          ),
+        ),
+      ),
     )
 
 -- an image whose parts stand on these lines

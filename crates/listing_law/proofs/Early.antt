@@ -1,8 +1,7 @@
 -- No line of a listing has an early cause of refusal, where its names are known.
-use Rattle.std.proofs.Common.{◌≡◌, ℕ, zero, suc, ◌+◌, ◌*◌, ◌<◌, ◌≤◌, List, [], ◌∷◌, length, map, Bool, true, false, arith, refl, sym, ap, subst, ◌∙◌, ℤ, pos}
-use Rattle.std.specs.Prelude.{Option, Some, None, is_none, not, ◌==◌, ◌||◌, ◌&&◌, nat_lt, nat_le, slice_index}
+use Rattle.std.proofs.Common.{◌≡◌, ℕ, ◌<◌, ◌≤◌, List, [], ◌∷◌, length, Bool, true, false, refl, sym, ap, subst, ◌∙◌, ℤ, pos}
+use Rattle.std.specs.Prelude.{Option, Some, None, is_none, not, ◌==◌, ◌||◌, nat_lt, nat_le}
 use Rattle.std.specs.List.{list_any}
-use Rattle.std.specs.Option.{option_map, option_map_or}
 use Rattle.std.proofs.lemmas.Bool.{or_from, and_from, eq-eqb, lt-ltb, le-leb, lt-leb}
 use Rattle.kern_base.specs.declared.kinds.Kind.{Kind}
 use Rattle.kern_base.specs.declared.kinds.Kind.TheVariants as k
@@ -12,19 +11,15 @@ use Rattle.app_image.specs.declared.records.VectorDef.{VectorDef}
 use Rattle.app_image.specs.declared.settings.ConfigKey.{ConfigKey}
 use Rattle.rv32_asm.specs.Pieces.{spelling}
 use Rattle.rv32_asm.specs.Names.{Names, definition, meaning}
-use Rattle.rv32_asm.specs.Operands.{registers_in, constant_in, listed, fits_low}
-use Rattle.rv32_asm.specs.Causes.{is_register, constant_fits, is_label_of, label_again, name_again, is_statement_of, is_undefined, stands_for_nothing, has_undefined, is_label, is_constant, is_instruction, is_placed, is_misplaced, is_short, has_early, early_causes, is_early}
-use Rattle.rv32_asm.specs.Places.{size_of}
+use Rattle.rv32_asm.specs.Causes.{is_register, is_label_of, label_again, name_again, is_statement_of, is_undefined, stands_for_nothing, is_constant, is_instruction, is_placed, is_misplaced, is_short, has_early, early_causes, is_early}
 use Rattle.rv32_asm.specs.declared.pieces.Span.{Span}
-use Rattle.rv32_asm.specs.declared.pieces.Operand.{Operand}
 use Rattle.rv32_asm.specs.declared.pieces.Operand.TheVariants.{Number}
 use Rattle.rv32_asm.specs.declared.mnemonics.Section.{Section}
 use Rattle.rv32_asm.specs.declared.mnemonics.Section.TheVariants as section
 use Rattle.rv32_asm.specs.declared.statements.Statement.{Statement}
-use Rattle.rv32_asm.specs.declared.statements.Statement.TheVariants.{Section as Sections, Registers, Immediate, Shift, Store, Branch, Upper, Jump, Alone, Words, Space, Task, Object, Vector, Setting}
+use Rattle.rv32_asm.specs.declared.statements.Statement.TheVariants.{Section as Sections, Words, Space, Task, Object, Vector, Setting}
 use Rattle.rv32_asm.specs.declared.statements.Line.{Line}
 use Rattle.rv32_asm.specs.declared.places.Counts.{Counts}
-use Rattle.rv32_asm.specs.declared.places.Meaning.{Meaning}
 use Rattle.rv32_asm.specs.declared.places.Meaning.TheVariants.{Label, Constant}
 use Rattle.rv32_asm.specs.declared.causes.AsmCause.{AsmCause}
 use Rattle.rv32_asm.proofs.CauseLaws.{NoneOf}

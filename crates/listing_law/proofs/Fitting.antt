@@ -1,20 +1,17 @@
 -- The lines of the listing of a valid image can be read.
-use Rattle.std.proofs.Common.{◌≡◌, ℕ, zero, suc, ◌+◌, ◌*◌, ◌^◌, ◌<◌, ◌≤◌, List, [], ◌∷◌, ◌++◌, length, map, Bool, true, arith, refl, sym, ap, subst, ◌∙◌, get_or}
-use Rattle.std.specs.Prelude.{slice_index, All}
+use Rattle.std.proofs.Common.{ℕ, zero, suc, ◌+◌, ◌*◌, ◌^◌, ◌<◌, ◌≤◌, List, [], ◌∷◌, ◌++◌, length, map, arith, refl}
+use Rattle.std.specs.Prelude.{slice_index}
 use Rattle.std.specs.List.{AllByRecursion}
 use Rattle.std.proofs.lemmas.List.Elements.{recursion_from_All}
-use Rattle.text_lex.specs.Bytes.{is_name}
 use Rattle.app_image.specs.Image.{ImageRecord, IsValidImage, IsValidTask, IsValidVector}
 use Rattle.app_image.specs.Held.{HasWordTask, HasWordVector}
 use Rattle.app_image.specs.Layout.{IsWord, HasWordFields, HasWords}
 use Rattle.app_image.specs.Names.{IsFreeName, names_of}
 use Rattle.app_image.specs.Settings.{IsValidConfig}
 use Rattle.app_image.specs.declared.records.TaskDef.{TaskDef}
-use Rattle.app_image.specs.declared.records.ObjDef.{ObjDef}
 use Rattle.app_image.specs.declared.records.VectorDef.{VectorDef}
 use Rattle.app_image.specs.declared.settings.Config.{Config}
-use Rattle.rv32_asm.specs.declared.mnemonics.Section.TheVariants as section
-use Rattle.listing_law.proofs.Items.{Item, Turned, Stored, Declared, Tasked, Vectored, IsItem}
+use Rattle.listing_law.proofs.Items.{Item, Stored, Declared, Tasked, Vectored, IsItem}
 use Rattle.listing_law.proofs.Readings.{AreItems}
 use Rattle.listing_law.proofs.Words.{code_word}
 use Rattle.listing_law.proofs.Listed.{code_items, setting_items, items_of}
@@ -85,10 +82,31 @@ vector_words words few w v = record {
 }
 
 settings_fit : (c : Config) → IsValidConfig c → AreItems (setting_items c)
-settings_fit c h =
-    ((refl, refl, omega (arith, h.isr_limit_high)), ((refl, refl, omega (arith, h.defer_size_high)), ((refl, refl, omega (arith, h.pool_high)), ((refl, refl, omega (arith, h.tmr_div_high)),
-    ((refl, refl, omega (arith, h.round_robin_high)), ((refl, refl, omega (arith, h.quanta_high)), ((refl, refl, omega (arith, h.tick_prio_high)), ((refl, refl, omega (arith, h.tmr_prio_high)),
-    ((refl, refl, omega (arith, h.tmr_sp_in_ram.high)), ((refl, refl, omega (arith, h.insert_high)), tt))))))))))
+settings_fit c h = (
+  (refl, refl, omega (arith, h.isr_limit_high)),
+  (
+    (refl, refl, omega (arith, h.defer_size_high)),
+    (
+      (refl, refl, omega (arith, h.pool_high)),
+      (
+        (refl, refl, omega (arith, h.tmr_div_high)),
+        (
+          (refl, refl, omega (arith, h.round_robin_high)),
+          (
+            (refl, refl, omega (arith, h.quanta_high)),
+            (
+              (refl, refl, omega (arith, h.tick_prio_high)),
+              (
+                (refl, refl, omega (arith, h.tmr_prio_high)),
+                ((refl, refl, omega (arith, h.tmr_sp_in_ram.high)), ((refl, refl, omega (arith, h.insert_high)), tt)),
+              ),
+            ),
+          ),
+        ),
+      ),
+    ),
+  ),
+)
 
 -- all lines of a valid image
 pub listed_fit : (image : ImageRecord) → IsValidImage image → HasWords image → AreItems (items_of image)

@@ -1,45 +1,36 @@
 -- The line of an item has no cause of refusal, and what it gives to the image.
-use Rattle.std.proofs.Common.{◌≡◌, ℕ, zero, suc, ◌+◌, ◌-◌, ◌*◌, ◌%◌, ◌^◌, ◌<◌, ◌≤◌, List, [], ◌∷◌, ◌++◌, length, map, drop, replicate, Bool, true, false, arith, refl, sym, ap, subst, ◌∙◌, append-nil, ℤ, pos, negsuc}
-use Rattle.std.specs.Prelude.{Option, Some, None, not, ◌==◌, ◌||◌, ◌&&◌, nat_lt, nat_le, slice_index, ◌-ℤ◌, if◌then◌else◌}
-use Rattle.std.proofs.lemmas.Bool.{le-ltb, lt-ltb}
+use Rattle.std.proofs.Common.{◌≡◌, ℕ, ◌+◌, ◌*◌, ◌^◌, ◌<◌, ◌≤◌, List, [], ◌∷◌, ◌++◌, map, Bool, true, false, arith, refl, sym, ap, subst, ◌∙◌, append-nil, pos}
+use Rattle.std.specs.Prelude.{Some, None, not, ◌&&◌, nat_lt, slice_index, ◌-ℤ◌, if◌then◌else◌}
+use Rattle.std.proofs.lemmas.Bool.{le-ltb}
 use Rattle.std.proofs.lemmas.Int.{ints}
 use Rattle.kern_base.specs.declared.kinds.Kind.{Kind}
 use Rattle.kern_base.specs.declared.kinds.Kind.TheVariants as k
 use Rattle.text_lex.specs.declared.Token.{Token}
-use Rattle.app_image.specs.Raw.{RawRecord, fields_used, HasZerosUnused}
+use Rattle.app_image.specs.Raw.{RawRecord}
 use Rattle.app_image.specs.Held.{HasWordTask, HasWordVector}
-use Rattle.app_image.specs.declared.records.TaskDef.{TaskDef}
-use Rattle.app_image.specs.declared.records.ObjDef.{ObjDef}
-use Rattle.app_image.specs.declared.records.VectorDef.{VectorDef}
 use Rattle.rv32_isa.specs.Listing.{encoded}
 use Rattle.rv32_isa.specs.declared.Instr.TheVariants.{Jal}
 use Rattle.rv32_asm.specs.Pieces.{spelling}
 use Rattle.rv32_asm.specs.Names.{Names, meaning}
-use Rattle.rv32_asm.specs.Operands.{listed, word_of, value_of, place_at}
+use Rattle.rv32_asm.specs.Operands.{word_of, value_of, place_at}
 use Rattle.rv32_asm.specs.Causes.{branch_reaches, jump_reaches, has_far_target, is_early, is_out_of_reach, target_fails, distance}
-use Rattle.rv32_asm.specs.Places.{size_of}
 use Rattle.rv32_asm.specs.Refusal.{overfills_code, overfills_ram, cause_of}
-use Rattle.rv32_asm.specs.Assembled.{task_of, vector_of, word_values}
+use Rattle.rv32_asm.specs.Assembled.{word_values}
 use Rattle.rv32_asm.specs.Instructions.{of_registers, of_immediate, of_shift, of_store, of_branch, of_upper, of_alone, distance_to, words}
 use Rattle.rv32_asm.specs.Steps.{with_words, with_statement}
-use Rattle.rv32_asm.specs.Calm.{late_cause}
-use Rattle.rv32_asm.specs.declared.pieces.Span.{Span}
-use Rattle.rv32_asm.specs.declared.pieces.Operand.{Operand}
-use Rattle.rv32_asm.specs.declared.pieces.Operand.TheVariants.{Number}
 use Rattle.rv32_asm.specs.declared.mnemonics.Section.{Section}
 use Rattle.rv32_asm.specs.declared.mnemonics.Section.TheVariants as section
 use Rattle.rv32_asm.specs.declared.statements.Statement.{Statement}
-use Rattle.rv32_asm.specs.declared.statements.Statement.TheVariants.{Branch, Jump, Task, Object, Vector}
+use Rattle.rv32_asm.specs.declared.statements.Statement.TheVariants.{Branch, Jump}
 use Rattle.rv32_asm.specs.declared.statements.Line.{Line}
 use Rattle.rv32_asm.specs.declared.places.Counts.{Counts}
 use Rattle.rv32_asm.specs.declared.places.Place.{Place}
-use Rattle.rv32_asm.specs.declared.places.Meaning.{Meaning}
-use Rattle.rv32_asm.specs.declared.places.Meaning.TheVariants.{Label, Constant}
+use Rattle.rv32_asm.specs.declared.places.Meaning.TheVariants.{Label}
 use Rattle.rv32_asm.specs.declared.causes.AsmCause.TheVariants.{TargetRange, CodeFull, RamFull}
 use Rattle.rv32_asm.proofs.CalmLaws.{late_is_cause}
 use Rattle.rv32_listing.specs.Texts.{label}
 use Rattle.listing_law.proofs.Bodies.{Body, OnRegisters, OnImmediate, OnLoad, OnShift, OnStore, OnBranch, OnUpper, OnJump, OnAlone, OnWord, IsBody, Spells, IsStatement}
-use Rattle.listing_law.proofs.Items.{Item, Turned, Coded, Stored, Declared, Tasked, Vectored, Set, object_operands, task_operands, vector_operands, Says, Means}
+use Rattle.listing_law.proofs.Items.{Item, Turned, Coded, Stored, Declared, Tasked, Vectored, Set, object_operands, Says, Means}
 use Rattle.listing_law.proofs.Words.{IsCode}
 use Rattle.listing_law.proofs.ItemSteps.{item_size, size_item}
 

@@ -1,6 +1,6 @@
 -- What the assembler's tables have for the words of a listing.
-use Rattle.std.proofs.Common.{◌≡◌, ℕ, zero, suc, ◌<◌, List, [], ◌∷◌, ◌++◌, Bool, true, false, decimal, arith, refl, sym, ap, ◌∙◌}
-use Rattle.std.specs.Prelude.{Option, Some, None, ◌==◌, codes}
+use Rattle.std.proofs.Common.{◌≡◌, ℕ, ◌<◌, Bool, true, false, refl, ap}
+use Rattle.std.specs.Prelude.{Option, Some, None, ◌==◌}
 use Rattle.std.specs.Fmt.{digits}
 use Rattle.std.proofs.lemmas.Bool.{eqb-true}
 use Rattle.rv32_asm.specs.Mnemonics.{register_mnemonic, immediate_mnemonic, shift_mnemonic, store_mnemonic, branch_mnemonic, upper_mnemonic, alone_mnemonic, jump_mnemonic, head_of}
@@ -19,7 +19,6 @@ use Rattle.rv32_asm.specs.declared.mnemonics.UpperOp.{UpperOp}
 use Rattle.rv32_asm.specs.declared.mnemonics.UpperOp.TheVariants as u
 use Rattle.rv32_asm.specs.declared.mnemonics.AloneOp.{AloneOp}
 use Rattle.rv32_asm.specs.declared.mnemonics.AloneOp.TheVariants as a
-use Rattle.rv32_asm.specs.declared.mnemonics.Head.{Head}
 use Rattle.rv32_asm.specs.declared.mnemonics.Head.TheVariants.{Registers, Immediate, Load, Shift, Store, Branch, Upper, Jump, Alone}
 use Rattle.rv32_listing.specs.Texts.{register}
 use Rattle.listing_law.proofs.Numerals.{below_at}

@@ -1,11 +1,11 @@
 -- A word as eight hexadecimal digits is read as that word.
-use Rattle.std.proofs.Common.{◌≡◌, ℕ, zero, suc, ◌+◌, ◌*◌, ◌/◌, ◌%◌, ◌^◌, ◌<◌, ◌≤◌, List, [], ◌∷◌, ◌++◌, length, drop, Bool, true, false, cond, arith, refl, sym, ap, ◌∙◌, pos}
-use Rattle.std.specs.Prelude.{◌&&◌, ◌||◌, ◌==◌, nat_lt, if◌then◌else◌, codes}
+use Rattle.std.proofs.Common.{◌≡◌, ℕ, ◌+◌, ◌*◌, ◌/◌, ◌%◌, ◌^◌, ◌<◌, List, [], ◌∷◌, ◌++◌, true, false, cond, arith, refl, ap, ◌∙◌, pos}
+use Rattle.std.specs.Prelude.{◌&&◌, ◌==◌}
 use Rattle.std.specs.List.{list_all, take_while}
 use Rattle.std.proofs.lemmas.Bool.{and_parts, and_from, eqb-true}
 use Rattle.std.proofs.lemmas.Bool.Decides.{nat_tests}
-use Rattle.text_lex.specs.Bytes.{is_digit, is_hex_digit, is_letter, is_name_byte}
-use Rattle.text_lex.specs.Numbers.{Numeral, digit_value, value_of, begins_hex, hex_numeral, decimal_numeral, numeral}
+use Rattle.text_lex.specs.Bytes.{is_digit, is_hex_digit, is_name_byte}
+use Rattle.text_lex.specs.Numbers.{digit_value, value_of, hex_numeral, decimal_numeral}
 use Rattle.text_lex.specs.Pieces.{positive}
 use Rattle.text_lex.specs.Division.{BeginsNoName}
 use Rattle.text_lex.specs.declared.TokenKind.TheVariants.{Number}
@@ -56,14 +56,19 @@ module _ (w : ℕ) (lt : w < 2 ^ 32) where
     where
       five : w / 16 ^ 6 * 16 + w / 16 ^ 5 % 16 ≡ w / 16 ^ 5
       five = omega arith
+
       four : w / 16 ^ 5 * 16 + w / 16 ^ 4 % 16 ≡ w / 16 ^ 4
       four = omega arith
+
       three : w / 16 ^ 4 * 16 + w / 16 ^ 3 % 16 ≡ w / 16 ^ 3
       three = omega arith
+
       two : w / 16 ^ 3 * 16 + w / 16 ^ 2 % 16 ≡ w / 16 ^ 2
       two = omega arith
+
       one : w / 16 ^ 2 * 16 + w / 16 ^ 1 % 16 ≡ w / 16 ^ 1
       one = omega arith
+
       none : w / 16 ^ 1 * 16 + w / 16 ^ 0 % 16 ≡ w
       none = omega arith
 

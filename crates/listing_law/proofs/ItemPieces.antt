@@ -1,12 +1,11 @@
 -- The parts of a listing's lines are read as pieces, and none of them ends its line.
-use Rattle.std.proofs.Common.{◌≡◌, ℕ, zero, suc, ◌+◌, ◌<◌, ◌≤◌, ◌^◌, List, [], ◌∷◌, ◌++◌, length, Bool, true, false, arith, refl, ℤ, pos}
+use Rattle.std.proofs.Common.{◌≡◌, ℕ, ◌<◌, ◌^◌, List, [], ◌∷◌, ◌++◌, length, Bool, true, false, arith, refl, pos}
 use Rattle.std.specs.Prelude.{◌&&◌, not, ◌==◌, slice_index, codes}
 use Rattle.std.proofs.lemmas.Bool.{and_parts, cond_both}
 use Rattle.kern_base.specs.declared.kinds.Kind.{Kind}
 use Rattle.kern_base.specs.declared.kinds.Kind.TheVariants as k
 use Rattle.text_lex.specs.Bytes.{is_name}
 use Rattle.text_lex.specs.Division.{Part, Blank, Comment, Lexeme, BeginsNoName}
-use Rattle.text_lex.specs.declared.Token.{Token}
 use Rattle.app_image.specs.Image.{no_callback}
 use Rattle.rv32_asm.specs.Lines.{is_end}
 use Rattle.text_lex.specs.declared.TokenKind.TheVariants as kind
@@ -17,7 +16,7 @@ use Rattle.listing_law.proofs.Parts.{flat, IsPiece, ArePieces}
 use Rattle.listing_law.proofs.TokensRead.{name_read, directive_read, decimal_read}
 use Rattle.listing_law.proofs.Named.{label_named}
 use Rattle.listing_law.proofs.Rows.{row_tokens, IsOpen, AreOpen}
-use Rattle.listing_law.proofs.Bodies.{Body, OnRegisters, OnImmediate, OnLoad, OnShift, OnStore, OnBranch, OnUpper, OnJump, OnAlone, OnWord, blank, comma, name, number, directive, body_parts, IsBody}
+use Rattle.listing_law.proofs.Bodies.{Body, OnRegisters, OnImmediate, OnLoad, OnShift, OnStore, OnBranch, OnUpper, OnJump, OnAlone, OnWord, blank, comma, name, number, directive, body_parts}
 use Rattle.listing_law.proofs.BodyPieces.{body_pieces}
 use Rattle.listing_law.proofs.Items.{Item, Turned, Coded, Stored, Declared, Tasked, Vectored, Set, section_bytes, IsSection, further, callback_part, timer_with, timer_parts, object_parts, item_parts, IsItem}
 

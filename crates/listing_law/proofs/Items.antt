@@ -1,15 +1,14 @@
 -- The lines of a listing: their parts, and what they are to the assembler.
-use Rattle.std.proofs.Common.{◌≡◌, ℕ, zero, suc, ◌+◌, ◌<◌, ◌≤◌, ◌^◌, List, [], ◌∷◌, ◌++◌, length, take, drop, map, Bool, true, false, decimal, arith, refl, sym, ap, subst, ◌∙◌, ℤ, pos}
+use Rattle.std.proofs.Common.{◌≡◌, ℕ, ◌+◌, ◌<◌, ◌^◌, List, [], ◌∷◌, length, drop, map, true, false, decimal, refl, sym, ap, subst, ◌∙◌, pos}
 use Rattle.std.specs.Prelude.{Option, Some, None, ◌==◌, if◌then◌else◌, slice_index, codes}
-use Rattle.std.specs.Str.{bytes_eq}
 use Rattle.std.specs.Option.{option_map}
 use Rattle.std.proofs.lemmas.List.{drop-drop}
-use Rattle.std.proofs.lemmas.Bool.{cond_both, eqb-true, eq-eqb}
+use Rattle.std.proofs.lemmas.Bool.{cond_both, eqb-true}
 use Rattle.std.proofs.lemmas.Slice.Eq.{bytes_eq-Decides}
 use Rattle.kern_base.specs.declared.kinds.Kind.{Kind}
 use Rattle.kern_base.specs.declared.kinds.Kind.TheVariants as k
 use Rattle.text_lex.specs.Bytes.{is_name}
-use Rattle.text_lex.specs.Division.{Part, Blank, Lexeme}
+use Rattle.text_lex.specs.Division.{Part, Lexeme}
 use Rattle.text_lex.specs.declared.Token.{Token}
 use Rattle.text_lex.specs.declared.TokenKind.TheVariants as kind
 use Rattle.app_image.specs.Image.{no_callback}
@@ -21,7 +20,7 @@ use Rattle.app_image.specs.declared.settings.ConfigKey.{ConfigKey}
 use Rattle.rv32_asm.specs.Mnemonics.{head_of}
 use Rattle.rv32_asm.specs.Pieces.{spelling, piece_of}
 use Rattle.rv32_asm.specs.Words.{key_of}
-use Rattle.rv32_asm.specs.Forms.{form, unused, callback, timer_kind, timer_of}
+use Rattle.rv32_asm.specs.Forms.{unused, callback, timer_kind}
 use Rattle.rv32_asm.specs.Lines.{formed, statement_of, behind_label, line_of, is_inject}
 use Rattle.rv32_asm.specs.declared.pieces.Span.{Span}
 use Rattle.rv32_asm.specs.declared.pieces.Operand.{Operand}
@@ -34,10 +33,9 @@ use Rattle.rv32_asm.specs.declared.statements.Statement.{Statement}
 use Rattle.rv32_asm.specs.declared.statements.Statement.TheVariants.{Section as Sections, Task, Object, Vector, Setting}
 use Rattle.rv32_asm.specs.declared.statements.Line.{Line}
 use Rattle.rv32_listing.specs.Texts.{label}
-use Rattle.rv32_listing.specs.Disassembly as spec
 use Rattle.listing_law.proofs.Rows.{row_tokens}
 use Rattle.listing_law.proofs.Spelled.{AreSpelled}
-use Rattle.listing_law.proofs.Bodies.{Body, OnRegisters, OnImmediate, OnLoad, OnShift, OnStore, OnBranch, OnUpper, OnJump, OnAlone, OnWord, blank, comma, name, directive, number, word, word_bytes, body_parts, IsBody, Spells, IsStatement, dotted_here, StandAt, body_read}
+use Rattle.listing_law.proofs.Bodies.{Body, OnRegisters, OnImmediate, OnLoad, OnShift, OnStore, OnBranch, OnUpper, OnJump, OnAlone, OnWord, blank, comma, name, directive, number, word, body_parts, IsBody, Spells, IsStatement, dotted_here, StandAt, body_read}
 
 pub data Item : Type 0 where
   Turned : Section → Item
@@ -220,12 +218,12 @@ module _ (text : List ℕ) (tokens : List Token) (place line at : ℕ) where
       (λ t h. (
         record { span = span (place + length (codes ".timer") + 1) n; same = h.1.0 },
         dotted_here text at (span place (codes ".timer")) (codes ".timer") head.Timer (behind (codes ".timer") (tail (name (codes "none")))) h.0 refl
-        ∙ timer_known n word kind f _ _ _ (ap timer_kind h.1.1.1.0 ∙ e) (callback_number text (slice_index f 2) (span (place + length (codes ".timer") + 1 + length n + 1 + 1 + length word + 1 + 1 + length (decimal (slice_index f 0)) + 1 + 1 + length (decimal (slice_index f 1)) + 1 + 1) (codes "none")) h.1.1.1.1.1.1.1.1.1.0 (eqb-true (slice_index f 2) no_callback t)),
+            ∙ timer_known n word kind f _ _ _ (ap timer_kind h.1.1.1.0 ∙ e) (callback_number text (slice_index f 2) (span (place + length (codes ".timer") + 1 + length n + 1 + 1 + length word + 1 + 1 + length (decimal (slice_index f 0)) + 1 + 1 + length (decimal (slice_index f 1)) + 1 + 1) (codes "none")) h.1.1.1.1.1.1.1.1.1.0 (eqb-true (slice_index f 2) no_callback t)),
       ))
       (λ t h. (
         record { span = span (place + length (codes ".timer") + 1) n; same = h.1.0 },
         dotted_here text at (span place (codes ".timer")) (codes ".timer") head.Timer (behind (codes ".timer") (tail (number (pos (slice_index f 2))))) h.0 refl
-        ∙ timer_known n word kind f _ _ _ (ap timer_kind h.1.1.1.0 ∙ e) refl,
+            ∙ timer_known n word kind f _ _ _ (ap timer_kind h.1.1.1.0 ∙ e) refl,
       ))
     where
       tail : Part → List Part
@@ -248,7 +246,7 @@ module _ (text : List ℕ) (tokens : List Token) (place line at : ℕ) where
   task_read t h = (
     record { span = span (place + length (codes ".task") + 1) t.name; same = h.1.0 },
     dotted_here text at (span place (codes ".task")) (codes ".task") head.Task
-    (behind (codes ".task") (blank ∷ name t.name ∷ further t.entry (further t.prio (further t.quanta (further t.qsize (further t.sp [])))))) h.0 refl,
+        (behind (codes ".task") (blank ∷ name t.name ∷ further t.entry (further t.prio (further t.quanta (further t.qsize (further t.sp [])))))) h.0 refl,
   )
 
   vector_read : (v : VectorDef) → AreSpelled text place (item_parts (Vectored v)) → statement_of text at (pieces (item_parts (Vectored v))) ≡ Vector (vector_operands v)

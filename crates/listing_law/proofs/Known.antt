@@ -1,6 +1,6 @@
 -- The names of a listing: each stands for what its line defines.
-use Rattle.std.proofs.Common.{◌≡◌, ◌≢◌, ℕ, zero, suc, ◌+◌, ◌*◌, ◌^◌, ◌<◌, ◌≤◌, List, [], ◌∷◌, ◌++◌, length, map, drop, get_or, Bool, true, false, cond, decimal, arith, refl, sym, ap, subst, ◌∙◌, append_assoc, append-nil, ℤ, pos}
-use Rattle.std.specs.Prelude.{Option, Some, None, ◌==◌, ◌||◌, AllPairs}
+use Rattle.std.proofs.Common.{◌≡◌, ◌≢◌, ℕ, zero, suc, ◌+◌, ◌*◌, ◌^◌, ◌<◌, ◌≤◌, List, [], ◌∷◌, ◌++◌, length, map, drop, get_or, Bool, true, false, cond, arith, refl, sym, ap, subst, ◌∙◌, append_assoc, pos}
+use Rattle.std.specs.Prelude.{Some, None, ◌==◌, AllPairs}
 use Rattle.std.specs.Option.{option_or}
 use Rattle.std.specs.List.{AllByRecursion}
 use Rattle.std.specs.Str.{bytes_eq}
@@ -8,10 +8,7 @@ use Rattle.std.proofs.lemmas.Bool.{false_from_ne_true, eqb-true, eq-eqb, or_part
 use Rattle.std.proofs.lemmas.Fmt.{decimal_injective}
 use Rattle.std.proofs.lemmas.Slice.Eq.{bytes_eq-Decides}
 use Rattle.kern_base.specs.Services.{service_name, service_of}
-use Rattle.app_image.specs.Names.{IsFreeName, names_service, is_service_name}
-use Rattle.app_image.specs.declared.records.TaskDef.{TaskDef}
-use Rattle.app_image.specs.declared.records.ObjDef.{ObjDef}
-use Rattle.app_image.specs.declared.records.VectorDef.{VectorDef}
+use Rattle.app_image.specs.Names.{names_service, is_service_name}
 use Rattle.rv32_asm.specs.Names.{Names, Defined, definition, defined_at_start, services_defined, first_of}
 use Rattle.rv32_asm.specs.declared.places.Counts.{Counts}
 use Rattle.rv32_asm.specs.declared.places.Definition.{Definition}
@@ -19,10 +16,9 @@ use Rattle.rv32_asm.specs.declared.places.Meaning.TheVariants.{Label, Constant}
 use Rattle.rv32_asm.proofs.NameLaws.{first_of-append}
 use Rattle.rv32_asm.proofs.MadeServices.{bytes_eq_turned}
 use Rattle.rv32_listing.specs.Texts.{label}
-use Rattle.listing_law.proofs.Items.{Item, Coded, Stored, Declared, Tasked, Vectored}
+use Rattle.listing_law.proofs.Items.{Item}
 use Rattle.listing_law.proofs.ItemSteps.{item_counted, item_defines}
 use Rattle.listing_law.proofs.Assembling.{items_defined}
-use Rattle.listing_law.proofs.Words.{body_of}
 use Rattle.listing_law.proofs.Listed.{code_items}
 
 -- what stands before the lines behind these

@@ -1,6 +1,6 @@
 -- The longest listing is shorter than the longest input.
-use Rattle.std.proofs.Common.{◌≡◌, ℕ, zero, suc, ◌+◌, ◌-◌, ◌*◌, ◌^◌, ◌<◌, ◌≤◌, List, [], ◌∷◌, ◌++◌, length, map, Bool, true, false, cond, decimal, arith, refl, sym, ap, subst, ◌∙◌, length-append, ℤ, pos, negsuc}
-use Rattle.std.specs.Prelude.{Option, Some, None, ◌&&◌, ◌==◌, nat_le, slice_index, ◌≤ℤ◌, codes}
+use Rattle.std.proofs.Common.{◌≡◌, ℕ, suc, ◌+◌, ◌*◌, ◌^◌, ◌<◌, ◌≤◌, List, [], ◌∷◌, ◌++◌, length, Bool, true, false, cond, decimal, arith, refl, ap, length-append, ℤ, pos, negsuc}
+use Rattle.std.specs.Prelude.{Option, Some, ◌==◌, nat_le, slice_index, ◌≤ℤ◌, codes}
 use Rattle.std.specs.Fmt.{signed_decimal}
 use Rattle.std.specs.List.{flat_map, list_all, AllByRecursion}
 use Rattle.std.specs.Str.{bytes_eq}
@@ -13,7 +13,6 @@ use Rattle.std.proofs.lemmas.List.Elements.{recursion_from_All}
 use Rattle.kern_base.specs.declared.kinds.Kind.{Kind}
 use Rattle.kern_base.specs.declared.kinds.Kind.TheVariants as k
 use Rattle.app_image.specs.Image.{ImageRecord, IsValidImage, IsValidTask, IsValidVector, no_callback}
-use Rattle.app_image.specs.Held.{HasWordTask, HasWordVector}
 use Rattle.app_image.specs.Layout.{IsWord, HasWordFields, HasWords}
 use Rattle.app_image.specs.Names.{IsFreeName}
 use Rattle.app_image.specs.Settings.{IsValidConfig}
@@ -24,9 +23,8 @@ use Rattle.app_image.specs.declared.settings.Config.{Config}
 use Rattle.rv32_asm.specs.Tables.{entry}
 use Rattle.rv32_asm.specs.Mnemonics.{heads, head_of, register_mnemonic, immediate_mnemonic, shift_mnemonic, store_mnemonic, branch_mnemonic, upper_mnemonic, alone_mnemonic}
 use Rattle.rv32_asm.specs.declared.mnemonics.Head.{Head}
-use Rattle.rv32_listing.specs.Texts.{label, register}
 use Rattle.rv32_listing.specs.WordLines.{code_line}
-use Rattle.rv32_listing.specs.Disassembly.{code_lines, ram_line, object_line, task_line, vector_line, setting_lines, kind_statement, callback, declarations, disassembly}
+use Rattle.rv32_listing.specs.Disassembly.{code_lines, ram_line, object_line, task_line, vector_line, setting_lines, kind_statement, callback, disassembly}
 use Rattle.listing_law.proofs.Parts.{flat}
 use Rattle.listing_law.proofs.Heads.{register_head, immediate_head, load_head, shift_head, store_head, branch_head, upper_head, alone_head}
 use Rattle.listing_law.proofs.Bodies.{Body, OnRegisters, OnImmediate, OnLoad, OnShift, OnStore, OnBranch, OnUpper, OnJump, OnAlone, OnWord, body_parts, IsBody}
@@ -154,9 +152,19 @@ vector_short words few v h =
 
 settings_short : (c : Config) → IsValidConfig c → length (setting_lines c) ≤ 400
 settings_short c h =
-    simp length-append (omega (arith, word_short c.isr_limit (omega (arith, h.isr_limit_high)), word_short c.defer_size (omega (arith, h.defer_size_high)), word_short c.pool (omega (arith, h.pool_high)),
-    word_short c.tmr_div (omega (arith, h.tmr_div_high)), word_short c.round_robin (omega (arith, h.round_robin_high)), word_short c.quanta (omega (arith, h.quanta_high)),
-    word_short c.tick_prio (omega (arith, h.tick_prio_high)), word_short c.tmr_prio (omega (arith, h.tmr_prio_high)), word_short c.tmr_sp (omega (arith, h.tmr_sp_in_ram.high)), word_short c.insert (omega (arith, h.insert_high))))
+    simp length-append (omega (
+      arith,
+      word_short c.isr_limit (omega (arith, h.isr_limit_high)),
+      word_short c.defer_size (omega (arith, h.defer_size_high)),
+      word_short c.pool (omega (arith, h.pool_high)),
+      word_short c.tmr_div (omega (arith, h.tmr_div_high)),
+      word_short c.round_robin (omega (arith, h.round_robin_high)),
+      word_short c.quanta (omega (arith, h.quanta_high)),
+      word_short c.tick_prio (omega (arith, h.tick_prio_high)),
+      word_short c.tmr_prio (omega (arith, h.tmr_prio_high)),
+      word_short c.tmr_sp (omega (arith, h.tmr_sp_in_ram.high)),
+      word_short c.insert (omega (arith, h.insert_high)),
+    ))
 
 total : (h c i r o t v s : List ℕ) (kh kc ki kr ko kt kv ks : ℕ) → length h ≤ kh → length c ≤ kc → length i ≤ ki → length r ≤ kr → length o ≤ ko → length t ≤ kt → length v ≤ kv → length s ≤ ks
     → length (h ++ (c ++ (i ++ (r ++ (o ++ (t ++ (v ++ s))))))) ≤ kh + kc + ki + kr + ko + kt + kv + ks

@@ -1,11 +1,10 @@
 -- What the lines of a listing give: the image, with the numbers of its lines.
-use Rattle.std.proofs.Common.{◌≡◌, ℕ, zero, suc, ◌+◌, ◌*◌, ◌<◌, ◌≤◌, List, [], ◌∷◌, ◌++◌, length, map, arith, refl, sym, ap, subst, ◌∙◌, append_assoc, append-nil}
+use Rattle.std.proofs.Common.{◌≡◌, ℕ, ◌+◌, ◌*◌, ◌≤◌, List, [], ◌∷◌, ◌++◌, length, map, arith, refl, ap, ◌∙◌, append_assoc, append-nil}
 use Rattle.std.specs.List.{AllByRecursion}
 use Rattle.std.proofs.lemmas.List.Elements.{recursion_from_All}
 use Rattle.app_image.specs.Image.{ImageRecord, IsValidImage}
 use Rattle.app_image.specs.Layout.{IsWord, HasWords}
 use Rattle.app_image.specs.Raw.{RawRecord}
-use Rattle.app_image.specs.RoundTrip.{unlined_task, unlined_object, unlined_vector}
 use Rattle.app_image.specs.declared.records.TaskDef.{TaskDef}
 use Rattle.app_image.specs.declared.records.ObjDef.{ObjDef}
 use Rattle.app_image.specs.declared.records.VectorDef.{VectorDef}
@@ -16,7 +15,7 @@ use Rattle.rv32_asm.specs.Steps.{empty_image}
 use Rattle.rv32_asm.specs.Words.{keys}
 use Rattle.rv32_asm.specs.declared.mnemonics.Section.TheVariants as section
 use Rattle.rv32_listing.specs.Disassembly.{value_of}
-use Rattle.listing_law.proofs.Items.{Item, Turned, Coded, Stored, Declared, Tasked, Vectored, Set}
+use Rattle.listing_law.proofs.Items.{Item, Turned, Stored, Declared, Tasked, Vectored}
 use Rattle.listing_law.proofs.Words.{body_of, IsCodeWord, code_word}
 use Rattle.listing_law.proofs.Listed.{code_items, setting_items, items_of}
 use Rattle.listing_law.proofs.Giving.{body_word, word_same, item_added}

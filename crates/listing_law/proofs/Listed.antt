@@ -1,17 +1,11 @@
 -- The lines of the listing of an image.
-use Rattle.std.proofs.Common.{◌≡◌, ℕ, zero, suc, ◌+◌, ◌*◌, ◌^◌, ◌<◌, ◌≤◌, List, [], ◌∷◌, ◌++◌, length, map, Bool, true, false, cond, decimal, arith, refl, sym, ap, subst, ◌∙◌, append_assoc, get_or, pos}
-use Rattle.std.specs.Prelude.{◌==◌, slice_index, codes, All}
-use Rattle.std.specs.List.{flat_map, AllByRecursion}
+use Rattle.std.proofs.Common.{◌≡◌, ℕ, ◌+◌, ◌*◌, List, [], ◌∷◌, ◌++◌, length, map, Bool, true, false, cond, decimal, refl, sym, ap, ◌∙◌, append_assoc, pos}
+use Rattle.std.specs.Prelude.{◌==◌, slice_index, codes}
+use Rattle.std.specs.List.{flat_map}
 use Rattle.kern_base.specs.declared.kinds.Kind.{Kind}
 use Rattle.kern_base.specs.declared.kinds.Kind.TheVariants as k
 use Rattle.text_lex.specs.Division.{Part, part_bytes}
-use Rattle.app_image.specs.Image.{ImageRecord, IsValidImage, IsValidTask, IsValidVector, no_callback}
-use Rattle.app_image.specs.Held.{HasWordTask, HasWordVector}
-use Rattle.app_image.specs.Layout.{IsWord, HasWordFields, HasWords}
-use Rattle.app_image.specs.Names.{IsFreeName, names_of}
-use Rattle.app_image.specs.declared.records.TaskDef.{TaskDef}
-use Rattle.app_image.specs.declared.records.ObjDef.{ObjDef}
-use Rattle.app_image.specs.declared.records.VectorDef.{VectorDef}
+use Rattle.app_image.specs.Image.{ImageRecord, no_callback}
 use Rattle.app_image.specs.declared.settings.Config.{Config}
 use Rattle.rv32_asm.specs.Words.{keys}
 use Rattle.rv32_asm.specs.declared.mnemonics.Section.TheVariants as section
@@ -22,9 +16,9 @@ use Rattle.rv32_listing.specs.Disassembly as spec
 use Rattle.listing_law.proofs.Parts.{flat}
 use Rattle.listing_law.proofs.Rows.{flat-append}
 use Rattle.listing_law.proofs.Bodies.{name, number, body_parts}
-use Rattle.listing_law.proofs.Items.{Item, Turned, Coded, Stored, Declared, Tasked, Vectored, Set, callback_part, timer_with, object_parts, item_parts, IsItem}
-use Rattle.listing_law.proofs.Readings.{line_end, items_parts, AreItems}
-use Rattle.listing_law.proofs.Words.{body_of, body_text, IsCodeWord, code_word}
+use Rattle.listing_law.proofs.Items.{Item, Turned, Coded, Stored, Declared, Tasked, Vectored, Set, callback_part, timer_with, object_parts, item_parts}
+use Rattle.listing_law.proofs.Readings.{line_end, items_parts}
+use Rattle.listing_law.proofs.Words.{body_of, body_text}
 
 -- the lines of code words from a number on, of so many
 abbrev pub code_items : (words number : ℕ) → List ℕ → List Item

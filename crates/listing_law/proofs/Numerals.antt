@@ -1,14 +1,13 @@
 -- Digits and what they are worth.
-use Rattle.std.proofs.Common.{◌≡◌, ◌≢◌, ℕ, zero, suc, ◌+◌, ◌-◌, ◌*◌, ◌/◌, ◌%◌, ◌^◌, ◌<◌, ◌≤◌, ◌⊎◌, inl, inr, List, [], ◌∷◌, ◌++◌, length, take, Bool, true, false, cond, decimal, arith, refl, sym, ap, subst, ◌∙◌}
-use Rattle.std.specs.Prelude.{◌&&◌, ◌||◌, ◌==◌, nat_le, nat_lt, if◌then◌else◌}
+use Rattle.std.proofs.Common.{◌≡◌, ℕ, zero, suc, ◌+◌, ◌*◌, ◌/◌, ◌%◌, ◌^◌, ◌<◌, ◌≤◌, List, [], ◌∷◌, ◌++◌, length, take, Bool, true, false, cond, decimal, arith, refl, ap, subst, ◌∙◌}
+use Rattle.std.specs.Prelude.{◌&&◌, ◌==◌}
 use Rattle.std.specs.List.{list_all, prefix_len, take_while}
-use Rattle.std.proofs.lemmas.Bool.{and_parts, and_from, or_parts, eqb-true, leb-true, lt-leb, ne_eqb, le-leb, false_from_ne_true}
+use Rattle.std.proofs.lemmas.Bool.{and_parts, and_from, or_parts, eqb-true}
 use Rattle.std.proofs.lemmas.List.Folds.{list_all-append}
-use Rattle.std.proofs.lemmas.Fmt.{decimal_by_steps, decimal_nonempty}
+use Rattle.std.proofs.lemmas.Fmt.{decimal_by_steps}
 use Rattle.text_lex.specs.Bytes.{is_digit, is_hex_digit, is_letter, is_name_byte}
 use Rattle.text_lex.specs.Numbers.{digit_value, value_of}
 use Rattle.text_lex.specs.Division.{BeginsNoName}
-use Rattle.rv32_listing.specs.Texts.{hex_digit, hex_word}
 
 -- A test that each number below a bound passes.
 abbrev pub below : ℕ → (ℕ → Bool) → Bool
@@ -64,6 +63,7 @@ hex_is_name byte lt h =
     not_or : Bool → Bool → Bool
     not_or true b = b
     not_or false b = true
+
     by : (a b : Bool) → a ≡ true → not_or a b ≡ true → b ≡ true
     by true b e f = f
     by false b e f = absurd cc
@@ -91,6 +91,7 @@ decimal_is n lt = decimal_by_steps IsDecimalOf one more n lt
   where
     one : (n : ℕ) → n < 10 → IsDecimalOf n ((48 + n) ∷ [])
     one n h = let d = digit_is n h in record { digits = and_from (is_digit (48 + n)) true d.0 refl; worth = omega (arith, d.1) }
+
     more : (n : ℕ) (ds : List ℕ) → 10 ≤ n → IsDecimalOf (n / 10) ds → IsDecimalOf n (ds ++ ((48 + n % 10) ∷ []))
     more n ds h r =
         let small : n % 10 < 10 = omega arith in

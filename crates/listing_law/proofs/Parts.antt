@@ -1,8 +1,8 @@
 -- A text that is put together from parts is read as their tokens.
-use Rattle.std.proofs.Common.{◌≡◌, ℕ, zero, suc, ◌+◌, ◌≤◌, List, [], ◌∷◌, ◌++◌, length, drop, Bool, true, false, arith, refl, sym, ap, ◌∙◌, length-append}
+use Rattle.std.proofs.Common.{◌≡◌, ℕ, suc, ◌+◌, ◌≤◌, List, [], ◌∷◌, ◌++◌, length, drop, Bool, true, false, arith, refl, ap, ◌∙◌, length-append}
 use Rattle.text_lex.specs.Pieces.{piece_at}
-use Rattle.text_lex.specs.Tokens.{Lexed, Tokens, before, token, lexed_from}
-use Rattle.text_lex.specs.Division.{Part, Blank, Comment, Lexeme, part_bytes, line_behind, goes_on, tokens_among}
+use Rattle.text_lex.specs.Tokens.{Tokens, before, token, lexed_from}
+use Rattle.text_lex.specs.Division.{Part, Blank, Comment, Lexeme, part_bytes, tokens_among}
 use Rattle.text_lex.specs.declared.Token.{Token}
 use Rattle.text_lex.specs.declared.TokenKind.{TokenKind}
 use Rattle.text_lex.specs.declared.TokenKind.TheVariants.{Name, Directive, Number, Comma, Open, Close, Colon, End}

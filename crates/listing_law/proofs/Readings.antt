@@ -1,5 +1,5 @@
 -- A text of items is read as their lines.
-use Rattle.std.proofs.Common.{◌≡◌, ℕ, zero, suc, ◌+◌, min, List, [], ◌∷◌, ◌++◌, length, take, drop, map, Bool, true, false, arith, refl, sym, ap, subst, ◌∙◌, append_assoc, length-append}
+use Rattle.std.proofs.Common.{◌≡◌, ℕ, suc, ◌+◌, min, List, [], ◌∷◌, ◌++◌, length, drop, map, false, arith, refl, sym, ap, subst, ◌∙◌, append_assoc, length-append}
 use Rattle.std.proofs.lemmas.List.{drop-drop}
 use Rattle.text_lex.specs.Tokens.{Tokens, token, lexed}
 use Rattle.text_lex.specs.Division.{Part, Lexeme, tokens_among}
@@ -10,7 +10,7 @@ use Rattle.rv32_asm.specs.Lines.{Reading, rows, line_of, line_in, before, readin
 use Rattle.rv32_asm.specs.declared.statements.Line.{Line}
 use Rattle.listing_law.proofs.Parts.{flat, ArePieces, lexed_parts}
 use Rattle.listing_law.proofs.Rows.{row_tokens, flat-append, tokens_line, row_within, rows_row, row_on, before_line}
-use Rattle.listing_law.proofs.Spelled.{AreSpelled, spelled_here}
+use Rattle.listing_law.proofs.Spelled.{spelled_here}
 use Rattle.listing_law.proofs.Items.{Item, item_parts, IsItem, Means, no_inject, item_read}
 use Rattle.listing_law.proofs.ItemPieces.{item_pieces, item_open, item_some}
 

@@ -1,14 +1,13 @@
 -- The rows of a text that is put together from lines: the parts of each, and a line feed.
-use Rattle.std.proofs.Common.{◌≡◌, ℕ, zero, suc, ◌+◌, ◌≤◌, ◌<◌, min, List, [], ◌∷◌, ◌++◌, length, take, drop, map, Bool, true, false, arith, refl, sym, ap, ◌∙◌, append_assoc, length-append}
-use Rattle.std.specs.Prelude.{Option, Some, None, not, if◌then◌else◌}
+use Rattle.std.proofs.Common.{◌≡◌, ℕ, suc, ◌+◌, ◌<◌, List, [], ◌∷◌, ◌++◌, length, map, Bool, true, false, arith, refl, sym, ap, ◌∙◌, append_assoc, length-append}
+use Rattle.std.specs.Prelude.{Some, if◌then◌else◌}
 use Rattle.text_lex.specs.Tokens.{token}
 use Rattle.text_lex.specs.Division.{Part, Blank, Comment, Lexeme, part_bytes, line_behind, goes_on, tokens_among}
 use Rattle.text_lex.specs.declared.Token.{Token}
 use Rattle.text_lex.specs.declared.TokenKind.{TokenKind}
 use Rattle.text_lex.specs.declared.TokenKind.TheVariants.{Name, Directive, Number, Comma, Open, Close, Colon, End}
 use Rattle.rv32_asm.specs.Pieces.{piece_of}
-use Rattle.rv32_asm.specs.Lines.{Row, is_end, extended, rows, line_of, line_in, Reading, is_inject, before, reading_of}
-use Rattle.rv32_asm.specs.declared.statements.Line.{Line}
+use Rattle.rv32_asm.specs.Lines.{Row, is_end, extended, rows, line_of, line_in, Reading, is_inject, before}
 use Rattle.listing_law.proofs.Parts.{flat}
 
 -- the tokens of the parts of a line, from a place on

@@ -1,21 +1,18 @@
 -- The lines of the listing of a valid image are accepted: their names and places are known.
-use Rattle.std.proofs.Common.{◌≡◌, ◌≢◌, ℕ, zero, suc, ◌+◌, ◌-◌, ◌*◌, ◌/◌, ◌%◌, ◌^◌, ◌<◌, ◌≤◌, List, [], ◌∷◌, ◌++◌, length, map, drop, replicate, get_or, Bool, true, false, arith, refl, sym, ap, subst, ◌∙◌, append_assoc, append-nil, pos}
-use Rattle.std.specs.Prelude.{Option, Some, None, slice_index, slice_index_or, All}
+use Rattle.std.proofs.Common.{◌≡◌, ◌≢◌, ℕ, zero, suc, ◌+◌, ◌-◌, ◌*◌, ◌/◌, ◌%◌, ◌<◌, ◌≤◌, List, [], ◌∷◌, ◌++◌, length, map, drop, replicate, arith, refl, sym, ap, subst, ◌∙◌, append_assoc, pos}
+use Rattle.std.specs.Prelude.{Some, None, slice_index_or}
 use Rattle.std.specs.Option.{option_map}
 use Rattle.std.specs.List.{AllByRecursion}
 use Rattle.std.proofs.lemmas.List.Elements.{recursion_from_All}
 use Rattle.kern_base.specs.declared.kinds.Kind.{Kind}
 use Rattle.kern_base.specs.declared.kinds.Kind.TheVariants as k
 use Rattle.app_image.specs.Image.{ImageRecord, IsValidImage, IsValidTask, IsValidObject, IsValidVector}
-use Rattle.app_image.specs.Held.{HasWordTask, HasWordVector}
 use Rattle.app_image.specs.Layout.{IsWord, HasWordFields, HasWords}
 use Rattle.app_image.specs.Names.{IsFreeName, names_of}
-use Rattle.app_image.specs.Raw.{fields_used, HasZerosUnused}
-use Rattle.app_image.specs.Settings.{IsValidConfig}
+use Rattle.app_image.specs.Raw.{fields_used}
 use Rattle.app_image.specs.declared.records.TaskDef.{TaskDef}
 use Rattle.app_image.specs.declared.records.ObjDef.{ObjDef}
 use Rattle.app_image.specs.declared.records.VectorDef.{VectorDef}
-use Rattle.app_image.specs.declared.settings.Config.{Config}
 use Rattle.rv32_asm.specs.Names.{Names, Defined, definition, defined_at_start, first_of, meaning}
 use Rattle.rv32_asm.specs.Operands.{no_place, place_at}
 use Rattle.rv32_asm.specs.Steps.{no_counts}
@@ -26,15 +23,15 @@ use Rattle.rv32_asm.specs.declared.places.Definition.{Definition}
 use Rattle.rv32_asm.specs.declared.places.Meaning.TheVariants.{Label, Constant}
 use Rattle.rv32_listing.specs.Texts.{label}
 use Rattle.listing_law.proofs.Bodies.{Body, OnRegisters, OnImmediate, OnLoad, OnShift, OnStore, OnBranch, OnUpper, OnJump, OnAlone, OnWord}
-use Rattle.listing_law.proofs.Items.{Item, Turned, Coded, Stored, Declared, Tasked, Vectored, Set}
+use Rattle.listing_law.proofs.Items.{Item, Turned, Stored, Declared, Tasked, Vectored}
 use Rattle.listing_law.proofs.Words.{body_of, IsCode, IsCodeWord, code_word}
 use Rattle.listing_law.proofs.Listed.{code_items, setting_items, items_of}
 use Rattle.listing_law.proofs.Fitting.{both, task_names, object_names, field_fits, unmapped, task_words, vector_words, listed_fit}
-use Rattle.listing_law.proofs.Early.{HasTarget, IsCalm}
+use Rattle.listing_law.proofs.Early.{HasTarget}
 use Rattle.listing_law.proofs.ItemSteps.{item_counted, item_placed}
 use Rattle.listing_law.proofs.Giving.{code_place, Reaches, object_words, IsAccepted}
 use Rattle.listing_law.proofs.Assembling.{items_defined, items_places, AreCalm, AreAccepted, item_names, AreSound}
-use Rattle.listing_law.proofs.Known.{items_counted, defined_append, skip, stop, label_definition, label_found, no_label, free_at_start, label_at_start, Apart, apart_pairs, AreApart, apart_parts, AreKnown, none_of, known_of}
+use Rattle.listing_law.proofs.Known.{items_counted, defined_append, skip, stop, label_definition, label_found, no_label, free_at_start, label_at_start, apart_pairs, AreApart, apart_parts, AreKnown, none_of, known_of}
 
 -- Code.
 
@@ -73,9 +70,10 @@ module _ (names : Names) (words : ℕ) (few : words ≤ 16384) (labels : Labels 
   calm_code number at (w ∷ ws) c rest e room h k =
       let here : number < words = omega (arith, room) in
       let code : IsCodeWord words (4 * number) w (body_of words (4 * number) w) = code_word words (4 * number) w few h.0 in
-      let known : names (label (4 * number)) ≡ Some (definition c (Label c.lines)) = labels number here ∙ ap (λ n. Some (label_definition n)) (sym e) in
-      ((refl, known, has_target (4 * number) w (body_of words (4 * number) w) code.gives, code.fits),
-        calm_code (number + 1) (at + 4) ws (record c { lines = c.lines + 1 }) rest (omega (arith, e)) (omega (arith, room)) h.1 k)
+      let known : names (label (4 * number)) ≡ Some (definition c (Label c.lines)) = labels number here ∙ ap (λ n. Some (label_definition n)) (sym e) in (
+        (refl, known, has_target (4 * number) w (body_of words (4 * number) w) code.gives, code.fits),
+        calm_code (number + 1) (at + 4) ws (record c { lines = c.lines + 1 }) rest (omega (arith, e)) (omega (arith, room)) h.1 k,
+      )
 
   module _ (places : List Place) (known : LabelPlaces places words) where
     reaches : (address w : ℕ) (body : Body) → IsCode words address w body → Reaches names places address body
@@ -95,9 +93,10 @@ module _ (names : Names) (words : ℕ) (few : words ≤ 16384) (labels : Labels 
     accepted_code number at [] rest e room h k = k at
     accepted_code number at (w ∷ ws) rest e room h k =
         let code : IsCodeWord words (4 * number) w (body_of words (4 * number) w) = code_word words (4 * number) w few h.0 in
-        let near : 4 * number + 4 ≤ 65536 = omega (arith, room, few) in
-        ((ap code_place e, near, reaches (4 * number) w (body_of words (4 * number) w) code.gives, code.fits),
-          accepted_code (number + 1) (at + 4) ws rest (omega (arith, e)) (omega (arith, room)) h.1 k)
+        let near : 4 * number + 4 ≤ 65536 = omega (arith, room, few) in (
+          (ap code_place e, near, reaches (4 * number) w (body_of words (4 * number) w) code.gives, code.fits),
+          accepted_code (number + 1) (at + 4) ws rest (omega (arith, e)) (omega (arith, room)) h.1 k,
+        )
 
 -- where the lines of code words begin
 code_places : (words number at : ℕ) (ws : List ℕ) (rest : List Item) (i : ℕ) → i < length ws
@@ -304,13 +303,18 @@ module _ (image : ImageRecord) (v : IsValidImage image) (w : HasWords image) whe
   words_of_code = recursion_from_All IsWord image.code w.code
 
   calm : AreCalm names no_counts no_place (items_of image)
-  calm =
-      (tt, calm_code names (length image.code) v.code_room labels 0 0 image.code c1 (Turned section.Ram ∷ ram_part) refl (omega arith) words_of_code
-      (λ q. (tt, calm_ram names image.ram c2 _ _ object_part
-      (λ q. calm_objects names image.objects c3 q task_part objects_known (omega (arith, no_objects, v.objects_room)) (object_names image v)
-      (λ q. calm_tasks names image.tasks c4 q tail_part tasks_known (omega (arith, no_tasks, v.tasks_room)) (task_names image v)
-      (λ q. calm_vectors names image.vectors c5 q (setting_items image.config) (omega (arith, no_vectors, v.vectors_room))
-      (λ d q. (tt, (tt, (tt, (tt, (tt, (tt, (tt, (tt, (tt, (tt, tt)))))))))))))))))
+  calm = (
+    tt,
+    calm_code names (length image.code) v.code_room labels 0 0 image.code c1 (Turned section.Ram ∷ ram_part) refl (omega arith) words_of_code
+        (λ q. (
+          tt,
+          calm_ram names image.ram c2 _ _ object_part
+              (λ q. calm_objects names image.objects c3 q task_part objects_known (omega (arith, no_objects, v.objects_room)) (object_names image v)
+              (λ q. calm_tasks names image.tasks c4 q tail_part tasks_known (omega (arith, no_tasks, v.tasks_room)) (task_names image v)
+              (λ q. calm_vectors names image.vectors c5 q (setting_items image.config) (omega (arith, no_vectors, v.vectors_room))
+              (λ d q. (tt, (tt, (tt, (tt, (tt, (tt, (tt, (tt, (tt, (tt, tt)))))))))))))),
+        )),
+  )
 
   abbrev places : List Place
   places = items_places no_place (items_of image)
@@ -322,16 +326,35 @@ module _ (image : ImageRecord) (v : IsValidImage image) (w : HasWords image) whe
   accepted =
       let words = length image.code in
       let h = image.config in
-      let c = v.config in
-      (tt, accepted_code names words v.code_room labels places label_places 0 0 image.code (Turned section.Ram ∷ ram_part) (omega arith) (omega arith) words_of_code
-      (λ to. (tt, accepted_ram names places image.ram (to + 0) 0 object_part (omega (arith, v.ram_room)) (recursion_from_All IsWord image.ram w.ram)
-      (λ q. accepted_map names places Declared (λ o. HasWordFields o × IsValidObject words o)
-      (λ p o h. (fields_same o.kind o.f h.0.four h.1.unused, λ i. field_fits o.f (recursion_from_All IsWord o.f h.0.words) i)) image.objects q task_part
-      (both HasWordFields (IsValidObject words) image.objects (recursion_from_All HasWordFields image.objects w.fields) (recursion_from_All (IsValidObject words) image.objects v.objects))
-      (λ q. accepted_map names places Tasked (IsValidTask words) (λ p t h. task_words words v.code_room t h) image.tasks q tail_part (recursion_from_All (IsValidTask words) image.tasks v.tasks)
-      (λ q. accepted_map names places Vectored (IsValidVector words) (λ p x h. vector_words words v.code_room x h) image.vectors q (setting_items image.config) (recursion_from_All (IsValidVector words) image.vectors v.vectors)
-      (λ q. (omega (arith, c.isr_limit_high), (omega (arith, c.defer_size_high), (omega (arith, c.pool_high), (omega (arith, c.tmr_div_high), (omega (arith, c.round_robin_high),
-      (omega (arith, c.quanta_high), (omega (arith, c.tick_prio_high), (omega (arith, c.tmr_prio_high), (omega (arith, c.tmr_sp_in_ram.high), (omega (arith, c.insert_high), tt)))))))))))))))))
+      let c = v.config in (
+        tt,
+        accepted_code names words v.code_room labels places label_places 0 0 image.code (Turned section.Ram ∷ ram_part) (omega arith) (omega arith) words_of_code
+            (λ to. (
+              tt,
+              accepted_ram names places image.ram (to + 0) 0 object_part (omega (arith, v.ram_room)) (recursion_from_All IsWord image.ram w.ram)
+                  (λ q. accepted_map names places Declared (λ o. HasWordFields o × IsValidObject words o)
+                  (λ p o h. (fields_same o.kind o.f h.0.four h.1.unused, λ i. field_fits o.f (recursion_from_All IsWord o.f h.0.words) i)) image.objects q task_part
+                  (both HasWordFields (IsValidObject words) image.objects (recursion_from_All HasWordFields image.objects w.fields) (recursion_from_All (IsValidObject words) image.objects v.objects))
+                  (λ q. accepted_map names places Tasked (IsValidTask words) (λ p t h. task_words words v.code_room t h) image.tasks q tail_part (recursion_from_All (IsValidTask words) image.tasks v.tasks)
+                  (λ q. accepted_map names places Vectored (IsValidVector words) (λ p x h. vector_words words v.code_room x h) image.vectors q (setting_items image.config) (recursion_from_All (IsValidVector words) image.vectors v.vectors)
+                  (λ q. (
+                    omega (arith, c.isr_limit_high),
+                    (
+                      omega (arith, c.defer_size_high),
+                      (
+                        omega (arith, c.pool_high),
+                        (
+                          omega (arith, c.tmr_div_high),
+                          (
+                            omega (arith, c.round_robin_high),
+                            (omega (arith, c.quanta_high), (omega (arith, c.tick_prio_high), (omega (arith, c.tmr_prio_high), (omega (arith, c.tmr_sp_in_ram.high), (omega (arith, c.insert_high), tt))))),
+                          ),
+                        ),
+                      ),
+                    ),
+                  ))))),
+            )),
+      )
 
   pub listed_sound : AreSound (items_of image)
   listed_sound = record { fit = listed_fit image v w; calm = calm; accepted = accepted }

@@ -1,7 +1,6 @@
 -- The tokens of parts are spelled as the parts are.
-use Rattle.std.proofs.Common.{◌≡◌, ℕ, zero, suc, ◌+◌, List, [], ◌∷◌, ◌++◌, length, take, drop, arith, refl, sym, ap, ◌∙◌, append_assoc, length-append}
-use Rattle.text_lex.specs.Division.{Part, Blank, Comment, Lexeme, part_bytes}
-use Rattle.text_lex.specs.declared.Token.{Token}
+use Rattle.std.proofs.Common.{◌≡◌, ℕ, ◌+◌, List, [], ◌∷◌, ◌++◌, length, take, drop, arith, refl, sym, ap, ◌∙◌, append_assoc, length-append}
+use Rattle.text_lex.specs.Division.{Part, Blank, Comment, Lexeme}
 use Rattle.listing_law.proofs.Parts.{flat}
 
 -- each token among parts has its bytes at its place of the text

@@ -1,21 +1,19 @@
 -- Names, directives and numbers are read as such, where no byte of a name stands behind them.
-use Rattle.std.proofs.Common.{◌≡◌, ◌≢◌, ℕ, zero, suc, ◌+◌, ◌-◌, ◌*◌, ◌/◌, ◌%◌, ◌^◌, ◌<◌, ◌≤◌, List, [], ◌∷◌, ◌++◌, length, take, drop, Bool, true, false, cond, decimal, arith, refl, sym, ap, subst, ◌∙◌, ℤ, pos, negsuc}
-use Rattle.std.specs.Prelude.{◌&&◌, ◌||◌, ◌==◌, nat_le, nat_lt, neg_ℤ, if◌then◌else◌, codes, map}
+use Rattle.std.proofs.Common.{◌≡◌, ◌≢◌, ℕ, suc, ◌+◌, ◌^◌, ◌<◌, ◌≤◌, List, [], ◌∷◌, ◌++◌, length, drop, Bool, true, false, cond, decimal, arith, refl, ap, subst, ◌∙◌, ℤ, pos, negsuc}
+use Rattle.std.specs.Prelude.{◌&&◌, ◌==◌, nat_le}
 use Rattle.std.specs.List.{list_all, prefix_len, take_while}
 use Rattle.std.specs.Fmt.{signed_decimal}
-use Rattle.std.proofs.lemmas.Bool.{and_parts, and_from, or_parts, eqb-true, leb-true, lt-leb, ne_eqb, le-leb, lt-ltb, le-ltb}
+use Rattle.std.proofs.lemmas.Bool.{and_parts, leb-true, ne_eqb, le-ltb}
 use Rattle.std.proofs.lemmas.Bool.Decides.{nat_tests}
 use Rattle.std.proofs.lemmas.Fmt.{decimal_nonempty}
 use Rattle.text_lex.specs.Bytes.{class_of, is_digit, is_hex_digit, is_letter, is_name, is_name_byte}
-use Rattle.text_lex.specs.Numbers.{Numeral, digit_value, value_of, begins_hex, hex_numeral, decimal_numeral, numeral}
-use Rattle.text_lex.specs.Pieces.{closed, positive, negative, after_minus, after_dot, piece_of, piece_at}
+use Rattle.text_lex.specs.Numbers.{Numeral, begins_hex, hex_numeral, decimal_numeral, numeral}
+use Rattle.text_lex.specs.Pieces.{closed, positive, negative, piece_of}
 use Rattle.text_lex.specs.Division.{BeginsNoName}
 use Rattle.text_lex.specs.declared.TokenKind.TheVariants.{Name, Directive, Number}
 use Rattle.text_lex.specs.declared.bytes.ByteClass.{ByteClass}
 use Rattle.text_lex.specs.declared.bytes.ByteClass.TheVariants as class
-use Rattle.text_lex.specs.declared.pieces.Piece.{Piece}
 use Rattle.text_lex.specs.declared.pieces.Piece.TheVariants.{Gives, Bad, TooLarge}
-use Rattle.rv32_listing.specs.Texts.{hex_digit, hex_word, hexadecimal}
 use Rattle.listing_law.proofs.Numerals.{below_at, BeginsNot, prefix_whole, while_whole, no_digit, IsDecimalOf, decimal_is}
 use Rattle.listing_law.proofs.Parts.{IsRead}
 

@@ -1,7 +1,6 @@
 -- The listing of a valid image is accepted, and gives the image.
-use Rattle.std.proofs.Common.{◌≡◌, ℕ, List, [], ◌∷◌, ◌++◌, length, drop, Bool, false, refl, sym, ap, subst, ◌∙◌}
-use Rattle.std.specs.Prelude.{if◌then◌else◌, Result, Ok}
-use Rattle.text_lex.specs.Tokens.{Lexed, Tokens, lexed}
+use Rattle.std.proofs.Common.{◌≡◌, ℕ, List, [], ◌∷◌, length, drop, false, refl, sym, ap, ◌∙◌}
+use Rattle.std.specs.Prelude.{if◌then◌else◌}
 use Rattle.text_lex.specs.declared.Token.{Token}
 use Rattle.app_image.specs.Image.{ImageRecord, IsValidImage}
 use Rattle.app_image.specs.Layout.{HasWords}
@@ -10,7 +9,7 @@ use Rattle.rv32_asm.specs.Steps.{empty_image}
 use Rattle.rv32_asm.specs.Assembled.{assembled}
 use Rattle.rv32_asm.specs.Assembly as asm
 use Rattle.inject_list.specs.Lists.{no_injections}
-use Rattle.program_model.specs.Case.{Case, Accepts, any_list, looks_refused, with_tokens, is_image, checked_case, assembled_case, text_case, image_case, input_case, case_of, whole_case}
+use Rattle.program_model.specs.Case.{Case, Accepts, any_list, looks_refused, with_tokens, is_image, checked_case, assembled_case, text_case, image_case, input_case}
 use Rattle.rv32_listing.specs.Disassembly.{disassembly}
 use Rattle.listing_law.specs.Law.{AssemblesBack, EveryListingAssemblesBack}
 use Rattle.listing_law.proofs.Parts.{flat}

@@ -1,7 +1,7 @@
 -- The statement of a code word, by its instruction, and what it is assembled to.
-use Rattle.std.proofs.Common.{◌≡◌, ℕ, zero, suc, ◌+◌, ◌-◌, ◌*◌, ◌%◌, ◌^◌, ◌<◌, ◌≤◌, List, [], ◌∷◌, ◌++◌, Bool, true, false, arith, refl, sym, ap, subst, ◌∙◌, append-nil, append_assoc, ℤ, pos, negsuc}
-use Rattle.std.specs.Prelude.{Option, Some, None, IfSome, unwrap_or, ◌==◌, ◌&&◌, nat_lt, nat_abs, int_le, ◌+ℤ◌, ◌-ℤ◌, ◌≤ℤ◌, if◌then◌else◌}
-use Rattle.std.specs.Option.{option_map, option_and_then}
+use Rattle.std.proofs.Common.{◌≡◌, ℕ, suc, ◌*◌, ◌%◌, ◌^◌, ◌<◌, ◌≤◌, true, arith, refl, sym, ap, ◌∙◌, append-nil, append_assoc, ℤ, pos, negsuc}
+use Rattle.std.specs.Prelude.{Option, Some, None, IfSome, unwrap_or, ◌==◌, nat_lt, int_le, ◌+ℤ◌, ◌-ℤ◌, ◌≤ℤ◌}
+use Rattle.std.specs.Option.{option_and_then}
 use Rattle.std.proofs.lemmas.Bool.{and_parts, and_from, cond_both, eqb-true, eq-eqb, ltb-true, le-leb}
 use Rattle.std.proofs.lemmas.Int.{ints}
 use Rattle.app_image.specs.Addresses.{is_code_address}
@@ -19,7 +19,7 @@ use Rattle.rv32_asm.specs.declared.mnemonics.BranchOp.TheVariants as branch
 use Rattle.rv32_asm.specs.declared.mnemonics.AloneOp.TheVariants as alone
 use Rattle.rv32_listing.specs.Texts.{word_statement}
 use Rattle.rv32_listing.specs.Forms.{form_of, fence_form}
-use Rattle.rv32_listing.specs.WordLines.{code_address, target, branch_to, jump_to, form_statement, instruction_statement, code_statement}
+use Rattle.rv32_listing.specs.WordLines.{code_address, target, branch_to, jump_to, form_statement, code_statement}
 use Rattle.rv32_listing.specs.declared.forms.Form.{Form}
 use Rattle.rv32_listing.specs.declared.forms.Form.TheVariants.{Registers, Immediate, Load, Shift, Store, Branch, Upper, Jump, Alone, Unwritten}
 use Rattle.listing_law.proofs.Parts.{flat}

@@ -1,5 +1,5 @@
 -- The listing of an image assembles back.
-use Rattle.std.specs.Prelude.{ℕ, ◌≡◌, ◌≤◌, length}
+use Rattle.std.specs.Prelude.{◌≡◌, ◌≤◌, length}
 use Rattle.app_image.specs.Image.{ImageRecord, IsValidImage}
 use Rattle.app_image.specs.Layout.{HasWords}
 use Rattle.app_image.specs.RoundTrip.{unlined}
