@@ -2,7 +2,7 @@
 use Rattle.std.specs.Prelude.{◌<◌, ℕ, List, [], ◌∷◌, ◌++◌, length, nat_le, codes, decimal, if◌then◌else◌}
 use Rattle.std.specs.Str.{bytes_eq}
 use Rattle.program_model.specs.declared.statuses.Status.{Status}
-use Rattle.program_model.specs.declared.statuses.Status.TheVariants.{Done, Usage, Refused, ReadFault, WriteFault, NoMemory, TooLong}
+use Rattle.program_model.specs.declared.statuses.Status.TheVariants.{Done, Broken, Usage, Refused, ReadFault, WriteFault, NoMemory, TooLong}
 use Rattle.program_model.specs.declared.causes.CaseCause.{CaseCause}
 use Rattle.program_model.specs.Refusals.{letter, number}
 use Rattle.diagnostics.specs.Meanings.{meaning}
@@ -35,7 +35,8 @@ HasMeaning cause = 0 < length (meaning (cause_name cause))
 -- what is told of every other end; of a refused case its message is told
 abbrev pub ending : Status → List ℕ
 ending Done = []
-ending Usage = codes "usage: ucos3 run direct N < CASE     print the run of a case to N task steps, 0 to 1,000,000; interrupt code posts at once\n       ucos3 run deferred N < CASE   the same, where what interrupt code posts waits for the handler\n       ucos3 list < CASE             print what a case declares, its code and its initial RAM\n       ucos3 image < CASE            write the binary image of a case\n"
+ending Broken = []
+ending Usage = codes "usage: ucos3 run direct N < CASE     print the run of a case to N task steps, 0 to 1,000,000; interrupt code posts at once\n       ucos3 run deferred N < CASE   the same, where what interrupt code posts waits for the handler\n       ucos3 both N < CASE           print both task histories, and the premises under which they are equal\n       ucos3 list < CASE             print what a case declares, its code and its initial RAM\n       ucos3 image < CASE            write the binary image of a case\n"
 ending Refused = []
 ending ReadFault = codes "the standard input could not be read; nothing was written\n"
 ending WriteFault = codes "the standard output could not be written; what was written is a prefix of the text\n"

@@ -8,6 +8,7 @@ use program_model::Status;
 const USAGE: &str = "\
 usage: ucos3 run direct N < CASE     print the run of a case to N task steps, 0 to 1,000,000; interrupt code posts at once
        ucos3 run deferred N < CASE   the same, where what interrupt code posts waits for the handler
+       ucos3 both N < CASE           print both task histories, and the premises under which they are equal
        ucos3 list < CASE             print what a case declares, its code and its initial RAM
        ucos3 image < CASE            write the binary image of a case
 ";
@@ -18,7 +19,7 @@ pub fn ending(status: Status) -> &'static str
     ensures { result.now ≡ ending status }
 {
     match status {
-        Status::Done | Status::Refused => "",
+        Status::Done | Status::Broken | Status::Refused => "",
         Status::Usage => USAGE,
         Status::ReadFault => "the standard input could not be read; nothing was written\n",
         Status::WriteFault => {

@@ -5,3 +5,14 @@ pub mod WakeKeeps
 pub mod NodeLaws
 pub mod BlockFits
 pub mod NodeKeeps
+pub mod Past
+pub mod MoveFacts
+pub mod MoveSeen
+pub mod Rewaits
+pub mod MovesHold
+pub mod RenewalFits
+pub mod Follows
+pub mod ToldFacts
+pub mod CallTells
+pub mod CallRenews
+pub mod MovesWritten

@@ -20,7 +20,7 @@ use Rattle.link_plans.proofs.WakeFits.{counted}
 use Rattle.link_plans.proofs.NodeLaws.{count-append, place_after}
 use Rattle.link_plans.proofs.BlockFits.{waited, node-count, no_wait, out_of}
 
-times-left-le : (m n : ℕ) (pend : List (List ℕ)) (o p : ℕ) → times m (list_at (left pend o n) p) ≤ times m (list_at pend p)
+pub times-left-le : (m n : ℕ) (pend : List (List ℕ)) (o p : ℕ) → times m (list_at (left pend o n) p) ≤ times m (list_at pend p)
 times-left-le m n [] o p = omega arith
 times-left-le m n (xs ∷ pend) zero zero = times-without-le m n xs
 times-left-le m n (xs ∷ pend) zero (suc p) = omega arith
@@ -54,7 +54,7 @@ wakes_keep prios ts us h xs l same noded o n some =
     noded o n (omega (arith, some, le)) ∙ ap (λ ids. 8 * (n / 8) + place_of o ids) (sym (same (n / 8)))
 
 -- a node joins one list
-times-inserted-le : (m n : ℕ) (pend : List (List ℕ)) (o i p : ℕ) → times m (list_at (inserted pend o i n) p) ≤ times m (n ∷ list_at pend p)
+pub times-inserted-le : (m n : ℕ) (pend : List (List ℕ)) (o i p : ℕ) → times m (list_at (inserted pend o i n) p) ≤ times m (n ∷ list_at pend p)
 times-inserted-le m n [] o i p = times-le m n []
 times-inserted-le m n (xs ∷ pend) zero i zero = let same = times-insert m xs i n in omega (arith, same)
 times-inserted-le m n (xs ∷ pend) zero i (suc p) = times-le m n (list_at pend p)

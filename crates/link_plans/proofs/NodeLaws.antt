@@ -25,7 +25,7 @@ total-none n [] h = refl
 total-none n (xs ∷ lists) h = let first = h 0 in let rest = total-none n lists (λ o. h (suc o)) in omega (arith, first, rest, sum_by-cons (times n) xs lists)
 
 -- a task of a list has a node there
-node_of : (x : ℕ) (xs : List ℕ) → 0 < count_of x (map (λ m. m / 8) xs) → (m : ℕ) × (0 < times m xs) × (m / 8 ≡ x)
+pub node_of : (x : ℕ) (xs : List ℕ) → 0 < count_of x (map (λ m. m / 8) xs) → (m : ℕ) × (0 < times m xs) × (m / 8 ≡ x)
 node_of x [] some = absurd (not-suc-le-zero {n = 0} (omega (arith, some)))
 node_of x (y ∷ ys) some =
     elim (eqb_tells (y / 8) x) [

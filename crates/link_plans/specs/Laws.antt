@@ -1,10 +1,12 @@
 -- The two facts that a service owes of its plan: its links are the blocks of its definition, and they fit.
-use Rattle.std.specs.Prelude.{◌≡◌, ◌<◌, ◌≤◌, ℕ, true, false, All, List, length}
+use Rattle.std.specs.Prelude.{◌≡◌, ◌<◌, ◌≤◌, ℕ, true, false, All, List, [], length}
 use Rattle.kern_base.specs.declared.numbers.Prio.{Prio}
 use Rattle.kern_model.specs.State.{Kernel, Task, task_at, prio_of, count_of, is_ready, task_in, waits_for_nothing, application_limit}
 use Rattle.kern_model.specs.Micro.{Lists}
 use Rattle.kern_model.specs.Effect.{wakes_blocks, block_blocks}
 use Rattle.kern_model.specs.Valid.{IsLinked}
+use Rattle.links.specs.Chain.{list_at}
+use Rattle.micro_steps.specs.declared.link.Link.{Link}
 use Rattle.micro_steps.specs.Blocks.{prio_in}
 use Rattle.micro_steps.specs.Whole.{task_blocks, AreFit, lists_after}
 use Rattle.link_plans.specs.Plans.{wakes_links, block_links}
@@ -52,3 +54,9 @@ BlockKeepsNodes =
     (prios : List Prio) (k : Kernel) (us : List Task) (x : ℕ) (os : List ℕ) (l : Lists) → IsLinked k → AreKernels k l → is_ready (task_at k x) ≡ true
     → ((o : ℕ) → count_of o os ≤ 1) → length os ≤ 8 → (task_in us x).objects ≡ os → ((y : ℕ) → (y ≡ x → ⊥) → (task_in us y).objects ≡ (task_at k y).objects)
     → IsNoded us (lists_after prios (block_links k.tasks x os) l).pend
+
+-- Past the kernel's objects nobody waits, also after links that fit.
+abbrev pub LinksKeepPast : Type 0
+LinksKeepPast =
+    (objects : ℕ) (prios : List Prio) (links : List Link) (l : Lists) → AreFit objects prios links l
+    → ((o : ℕ) → objects ≤ o → list_at l.pend o ≡ []) → (o : ℕ) → objects ≤ o → list_at (lists_after prios links l).pend o ≡ []

@@ -1,7 +1,9 @@
 // The two facts that a service owes of its plan, proved for all tasks, objects and lists. Each function does nothing: its contract
 // is the fact.
 
-ghost use Rattle.link_plans.specs.Laws.{BlockFits, BlockIsBlocks, BlockKeepsNodes, WaiterCanWake, WakesAreBlocks, WakesFit, WakesKeepNodes};
+ghost use Rattle.link_plans.specs.AfterCalls.{BlockKnowsObjects, BlockRenews, BlockTells, PlainRenews, WakesKeepObjects, WakesRenew, WakesTell};
+ghost use Rattle.link_plans.specs.Renewals.{BlockKeepsPriorities, LinksLead, RenewalMovesPriorities, RenewalMovesTasks, RenewalsFollow, RenewalsHold, WakesKeepPriorities};
+ghost use Rattle.link_plans.specs.Laws.{BlockFits, BlockIsBlocks, BlockKeepsNodes, LinksKeepPast, WaiterCanWake, WakesAreBlocks, WakesFit, WakesKeepNodes};
 
 /// The links of tasks that are woken are the blocks of their wakes.
 pub fn wakes_are_blocks()
@@ -36,4 +38,56 @@ pub fn wakes_keep_nodes()
 /// After the links of a caller that waits, each node that waits serves its task's object.
 pub fn a_block_keeps_nodes()
     ensures { BlockKeepsNodes }
+{}
+
+/// Where nobody waits past the kernel's objects, nobody does after links that fit.
+pub fn links_keep_past()
+    ensures { LinksKeepPast }
+{}
+
+/// The links of a renewal fit, are its blocks, and end with the lists of the kernel after it.
+pub fn renewals_hold()
+    ensures { RenewalsHold }
+{}
+
+/// The same after the links of a call, with the end of the step behind them.
+pub fn renewals_follow()
+    ensures { RenewalsFollow }
+{}
+
+/// Links that fit lead from the kernel's lists to those that their blocks lead to.
+pub fn links_lead()
+    ensures { LinksLead }
+{}
+
+/// The links of tasks that are woken, and of a caller that waits, leave the priorities of all tasks.
+pub fn links_keep_priorities()
+    ensures wakes { WakesKeepPriorities }
+    ensures block { BlockKeepsPriorities }
+{}
+
+/// What a plan and the records tell of the tasks after a call whose caller waits.
+pub fn a_block_tells()
+    ensures tasks { BlockTells }
+    ensures objects { BlockKnowsObjects }
+{}
+
+/// What a plan and the records tell of the tasks after a call that wakes tasks.
+pub fn wakes_tell()
+    ensures tasks { WakesTell }
+    ensures objects { WakesKeepObjects }
+{}
+
+/// The links of a call after which priorities are renewed: of a caller that waits, of tasks that are woken, or none; and those of
+/// the renewal behind them. They fit, are the blocks of the call, and end with the lists of the kernel after it.
+pub fn calls_renew()
+    ensures block { BlockRenews }
+    ensures wakes { WakesRenew }
+    ensures plain { PlainRenews }
+{}
+
+/// The records and the priorities after a renewal are those before it with each move written.
+pub fn moves_are_written()
+    ensures tasks { RenewalMovesTasks }
+    ensures priorities { RenewalMovesPriorities }
 {}

@@ -5,10 +5,16 @@
 #![tactic(auto)]
 
 mod laws;
+mod moves;
 mod plan;
+mod renewal_plan;
+mod standings;
 
 pub use laws::{
-    a_block_fits, a_block_is_its_blocks, a_block_keeps_nodes, a_waiter_can_wake, wakes_are_blocks,
-    wakes_fit, wakes_keep_nodes,
+    a_block_fits, a_block_is_its_blocks, a_block_keeps_nodes, a_block_tells, a_waiter_can_wake,
+    calls_renew, links_keep_past, links_keep_priorities, links_lead, moves_are_written,
+    renewals_follow, renewals_hold, wakes_are_blocks, wakes_fit, wakes_keep_nodes, wakes_tell,
 };
+pub use moves::{Move, Moves, Standing};
 pub use plan::Plan;
+pub use renewal_plan::RenewalPlan;

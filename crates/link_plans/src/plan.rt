@@ -1,6 +1,6 @@
 // What a call comes to, and which of its links are made.
 
-ghost use Rattle.std.specs.Prelude.{◌≡◌, ◌<◌, ◌≤◌, ℕ, [], ◌∷◌, drop, length, All, MatchOption, None};
+ghost use Rattle.std.specs.Prelude.{◌≡◌, ◌<◌, ◌≤◌, ℕ, [], ◌∷◌, drop, length, All, MatchOption, None, true};
 ghost use Rattle.link_plans.specs.Plans.{block_links, links_left, wakes_left};
 
 use arrayvec::ArrayVec;
@@ -36,6 +36,8 @@ impl Plan {
         requires woken { All (λ x. x < 64) self.old.woken.items }
         ensures next { MatchOption result (links_left tasks.now.tasks self.old ≡ []) (λ link. links_left tasks.now.tasks self.old ≡ link ∷ links_left tasks.now.tasks self.new) }
         ensures kept { (self.new.decision ≡ self.old.decision) × (self.new.caller ≡ self.old.caller) × (self.new.compared ≡ self.old.compared) × (self.new.objects ≡ self.old.objects) × (self.new.woken ≡ self.old.woken) }
+        ensures ended { self.old.ended ≡ true → self.new.ended ≡ true }
+        ensures none { result ≡ None → links_left tasks.now.tasks self.new ≡ [] }
     {
         let next = match self.decision {
             Decision::Done(_) => None,

@@ -5,13 +5,16 @@ use Rattle.program_model.specs.Limits.{longest_input}
 use Rattle.program_model.specs.declared.statuses.Status.{Status}
 use Rattle.program_model.specs.declared.statuses.Status.TheVariants as status
 use Rattle.program_model.specs.declared.commands.Command.{Command}
-use Rattle.program_model.specs.declared.commands.Command.TheVariants.{Run, Listing, Binary}
+use Rattle.program_model.specs.declared.commands.Command.TheVariants.{Run, Both, Listing, Binary}
 use Rattle.kern_base.specs.declared.kinds.Method.{Method}
+use Rattle.kern_base.specs.declared.kinds.Method.TheVariants.{Direct, Deferred}
 use Rattle.kern_model.specs.Services.{program_serves}
 use Rattle.app_image.specs.Image.{ImageRecord}
 use Rattle.app_image.specs.Layout.{layout}
 use Rattle.inject_list.specs.Lists.{ListRecord}
 use Rattle.machine_model.specs.Run.{run_text}
+use Rattle.machine_model.specs.Premises.{is_broken}
+use Rattle.program_model.specs.Both.{run_of, both_text}
 use Rattle.program_model.specs.Case.{Case, Accepts, Refuses, case_of}
 use Rattle.program_model.specs.Listing.{listing}
 use Rattle.program_model.specs.Refusals.{refusal_line}
@@ -25,16 +28,32 @@ pub record Answer : Type 0 where
 unfoldable pub printed : Method → ImageRecord → ListRecord → ℕ → List ℕ
 printed method image l count = run_text program_serves method image l count
 
+-- what is written of the runs of a case by both methods to so many task steps
+unfoldable pub compared : ImageRecord → ListRecord → ℕ → List ℕ
+compared image l count = both_text image (record { direct = run_of Direct image l count; deferred = run_of Deferred image l count })
+
+-- how the comparison ends: whether a premise is broken in the run by the deferred method
+unfoldable pub compared_status : ImageRecord → ListRecord → ℕ → Status
+compared_status image l count = if is_broken (run_of Deferred image l count) then status.Broken else status.Done
+
 -- what a command writes of an image and its injections
 abbrev pub accepted_text : Command → ImageRecord → ListRecord → List ℕ
 accepted_text (Run method count) image l = printed method image l count
+accepted_text (Both count) image l = compared image l count
 accepted_text Listing image l = listing image
 accepted_text Binary image l = layout image
+
+-- how a command ends that has written all this
+abbrev pub accepted_status : Command → ImageRecord → ListRecord → Status
+accepted_status (Run method count) image l = status.Done
+accepted_status (Both count) image l = compared_status image l count
+accepted_status Listing image l = status.Done
+accepted_status Binary image l = status.Done
 
 -- of a command on the case that was read
 abbrev pub case_answer : Command → Case → Answer
 case_answer command (Refuses line cause) = record { status = status.Refused; text = refusal_line line cause }
-case_answer command (Accepts image l) = record { status = status.Done; text = accepted_text command image l }
+case_answer command (Accepts image l) = record { status = accepted_status command image l; text = accepted_text command image l }
 
 -- of a command on an input
 abbrev pub command_answer : Option Command → List ℕ → Answer

@@ -8,6 +8,7 @@ pub mod Case
 pub mod Refusals
 pub mod Listing
 pub mod Statuses
+pub mod Both
 pub mod Answer
 pub mod Ends
 pub mod Whole

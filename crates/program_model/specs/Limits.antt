@@ -1,7 +1,7 @@
 -- The limits of what is read, asked for and generated.
 use Rattle.std.specs.Prelude.{◌≤◌, ℕ}
 use Rattle.program_model.specs.declared.commands.Command.{Command}
-use Rattle.program_model.specs.declared.commands.Command.TheVariants.{Run, Listing, Binary}
+use Rattle.program_model.specs.declared.commands.Command.TheVariants.{Run, Both, Listing, Binary}
 
 -- the longest input that is read, in bytes
 abbrev pub longest_input : ℕ
@@ -15,8 +15,9 @@ most_task_steps = 1000000
 abbrev pub most_lines : ℕ
 most_lines = 16384
 
--- a run has at most 1,000,000 task steps
+-- a run, also one of two, has at most 1,000,000 task steps
 abbrev pub IsWithinLimit : Command → Type 0
 IsWithinLimit (Run method count) = count ≤ most_task_steps
+IsWithinLimit (Both count) = count ≤ most_task_steps
 IsWithinLimit Listing = Unit {0}
 IsWithinLimit Binary = Unit {0}

@@ -1,7 +1,6 @@
 -- The defined answer of every command, also of those that the program does not have yet: a status, and the bytes to write.
 use Rattle.std.specs.Prelude.{ℕ, ◌+◌, nat_lt, List, [], ◌∷◌, ◌++◌, length, Bool, true, false, Option, Some, None, is_some, if◌then◌else◌, codes, decimal}
 use Rattle.std.specs.List.{count_by}
-use Rattle.kern_base.specs.declared.kinds.Method.TheVariants.{Direct, Deferred}
 use Rattle.kern_base.specs.declared.services.Service.{Service}
 use Rattle.app_image.specs.Image.{ImageRecord}
 use Rattle.app_image.specs.Layout.{layout}
@@ -11,9 +10,10 @@ use Rattle.machine_model.specs.declared.events.Event.{Event}
 use Rattle.machine_model.specs.declared.events.What.{What}
 use Rattle.machine_model.specs.declared.events.What.TheVariants.{Call}
 use Rattle.machine_model.specs.Text.{in_history}
-use Rattle.machine_model.specs.Run.{Run, run, run_text, history}
+use Rattle.machine_model.specs.Run.{Run, run_text}
 use Rattle.machine_model.specs.Premises.{premise_lines, is_broken}
 use Rattle.program_model.specs.Limits.{longest_input}
+use Rattle.program_model.specs.Both.{Runs, runs_of, both_text}
 use Rattle.program_model.specs.Commands.{AnyCommand, any_command}
 use Rattle.program_model.specs.Commands as command
 use Rattle.program_model.specs.Listing.{line, listing}
@@ -37,20 +37,9 @@ answers status text = record { status = status; text = text }
 
 -- Both methods.
 
--- the runs of a case by the two methods
-pub record Runs : Type 0 where
-  pub direct : Run
-  pub deferred : Run
-
 -- the status of both runs: whether a premise is broken in the deferred one
 abbrev pub runs_status : Runs → AnyStatus
 runs_status r = if is_broken r.deferred then Broken else Done
-
--- both task histories, the premises of the deferred run, and the raw steps of both runs
-abbrev pub both_text : ImageRecord → Runs → List ℕ
-both_text image r =
-    codes "method direct\n" ++ (history image r.direct ++ (codes "method deferred\n" ++ (history image r.deferred
-    ++ (premise_lines image r.deferred ++ line (codes "raw") (decimal r.direct.last.s ∷ decimal r.deferred.last.s ∷ [])))))
 
 -- The summary of both runs of a generated case.
 
@@ -83,18 +72,14 @@ summary seed size image r =
 
 -- `served`: the services that there are
 module _ (served : Service → Bool) where
-  -- both runs of a case to so many task steps
-  abbrev pub runs_of : ImageRecord → ListRecord → ℕ → Runs
-  runs_of image l n = record { direct = run served Direct image l n; deferred = run served Deferred image l n }
-
   -- of a command on an image and its injections
   abbrev pub accepted_answer : AnyCommand → ImageRecord → ListRecord → WholeAnswer
   accepted_answer (command.Run method n) image l = answers Done (run_text served method image l n)
-  accepted_answer (command.Both n) image l = let r = runs_of image l n in answers (runs_status r) (both_text image r)
+  accepted_answer (command.Both n) image l = let r = runs_of served image l n in answers (runs_status r) (both_text image r)
   accepted_answer command.Listing image l = answers Done (listing image)
   accepted_answer command.Binary image l = answers Done (layout image)
   accepted_answer (command.Generate seed size) image l = answers Done (generated seed size)
-  accepted_answer (command.Soak seed size) image l = let r = runs_of image l (steps_for size) in answers (runs_status r) (summary seed size image r)
+  accepted_answer (command.Soak seed size) image l = let r = runs_of served image l (steps_for size) in answers (runs_status r) (summary seed size image r)
 
   -- of a command on a case
   abbrev pub case_answer : AnyCommand → Case → WholeAnswer

@@ -10,7 +10,7 @@ use Rattle.kern_base.specs.declared.kinds.Method.{Method}
 use Rattle.kern_base.specs.declared.kinds.Method.TheVariants.{Direct, Deferred}
 use Rattle.program_model.specs.Limits.{most_task_steps}
 use Rattle.program_model.specs.declared.commands.Command.{Command}
-use Rattle.program_model.specs.declared.commands.Command.TheVariants.{Run, Listing, Binary}
+use Rattle.program_model.specs.declared.commands.Command.TheVariants.{Run, Both, Listing, Binary}
 
 -- the value of decimal digits behind a front of this value
 abbrev pub value_of : ℕ → List ℕ → ℕ
@@ -38,6 +38,15 @@ run_command (Some method) (Some count) = Some (Run method count)
 abbrev pub one_word : List ℕ → Option Command
 one_word first = if bytes_eq first (codes "list") then Some Listing else (if bytes_eq first (codes "image") then Some Binary else None)
 
+-- both methods to a number of task steps
+abbrev pub both_command : Option ℕ → Option Command
+both_command None = None
+both_command (Some count) = Some (Both count)
+
+-- `both N`
+abbrev pub two_words : List ℕ → List ℕ → Option Command
+two_words first count = if bytes_eq first (codes "both") then both_command (count_word count) else None
+
 -- `run direct N` and `run deferred N`
 abbrev pub three_words : List ℕ → List ℕ → List ℕ → Option Command
 three_words first method count = if bytes_eq first (codes "run") then run_command (method_word method) (count_word count) else None
@@ -45,6 +54,7 @@ three_words first method count = if bytes_eq first (codes "run") then run_comman
 -- the command that the words are
 abbrev pub command_of : List (List ℕ) → Option Command
 command_of (first ∷ []) = one_word first
+command_of (first ∷ count ∷ []) = two_words first count
 command_of (first ∷ method ∷ count ∷ []) = three_words first method count
 command_of _ = None
 

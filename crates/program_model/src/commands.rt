@@ -7,6 +7,9 @@ use kern_base::Method;
 pub enum Command {
     /// The printed run of the case by a posting method to so many task steps, at most 1,000,000.
     Run(Method, u32),
+    /// The task histories of the case by both posting methods to so many task steps, at most 1,000,000, and
+    /// the premises under which they are equal.
+    Both(u32),
     /// The listing of the case's image.
     Listing,
     /// The case's image in the binary format.

@@ -8,6 +8,8 @@ ghost use Rattle.program_model.specs.Statuses.{status_number};
 pub enum Status {
     /// All that was asked for is written.
     Done,
+    /// All that was asked for is written, and a premise is broken under which both methods give one history.
+    Broken,
     /// The words are no command; nothing is read or written.
     Usage,
     /// The case is refused, in one line.
@@ -29,6 +31,7 @@ impl Status {
     {
         match self {
             Status::Done => 0,
+            Status::Broken => 1,
             Status::Usage => 2,
             Status::Refused => 3,
             Status::ReadFault => 4,

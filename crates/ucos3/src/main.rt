@@ -2,7 +2,8 @@
 //! was asked for, and ends with the number of the status.
 #![tactic(auto)]
 
-ghost use Rattle.std.specs.Prelude.{◌≡◌, ◌≢◌, OnErr, OnOk};
+ghost use Rattle.std.specs.Prelude.{◌≡◌, OnErr, OnOk};
+ghost use Rattle.ucos_top.specs.Told.{IsRun};
 
 use arrayvec::ArrayVec;
 use diagnostics::{KEPT, KeepingSink, tell};
@@ -36,11 +37,11 @@ fn output(rt: &HostRuntime) -> BufWriter<Stdout> {
 // any other status stays.
 fn ended(status: Status, flushed: Result<(), Failed>) -> Status
     ensures flushed { OnOk flushed (result ≡ status) }
-    ensures fault { OnErr flushed (status ≡ Status.Done → result ≡ Status.WriteFault) }
-    ensures other { OnErr flushed (status ≢ Status.Done → result ≡ status) }
+    ensures fault { OnErr flushed (IsRun status → result ≡ Status.WriteFault) }
+    ensures other { OnErr flushed ((IsRun status → ⊥) → result ≡ status) }
 {
     match flushed {
-        Err(Failed) if status == Status::Done => Status::WriteFault,
+        Err(Failed) if matches!(status, Status::Done | Status::Broken) => Status::WriteFault,
         _ => status,
     }
 }

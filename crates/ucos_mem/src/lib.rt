@@ -32,10 +32,12 @@ pub fn run_in_memory(alloc: Global, words: &[String], input: Vec<u8>) -> Result<
         return Err(NoMemory);
     }
     match status {
-        Status::Done | Status::Usage | Status::Refused | Status::TooLong => Ok(Answered {
-            status,
-            text: page.into_bytes(),
-        }),
+        Status::Done | Status::Broken | Status::Usage | Status::Refused | Status::TooLong => Ok(
+            Answered {
+                status,
+                text: page.into_bytes(),
+            },
+        ),
         Status::ReadFault | Status::WriteFault | Status::NoMemory => Err(NoMemory),
     }
 }

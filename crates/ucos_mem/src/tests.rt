@@ -1,3 +1,4 @@
+mod both;
 mod cases;
 mod deferred;
 mod interrupts;
@@ -363,7 +364,10 @@ fn words_that_are_no_command_write_nothing(rt: HostRuntime) -> Result<(), Fail> 
         "run direct 1000001",
         "run direct 00000008",
         "run direct -5",
-        "both 5",
+        "both",
+        "both 5 5",
+        "both direct 5",
+        "both 1000001",
         "--help",
         "list 5",
         "image image",

@@ -1,5 +1,8 @@
 pub mod CaseLaws
+pub mod CompareLaws
 pub mod Digits
+pub mod HeldLaws
+pub mod HistoryLaws
 pub mod LookLaws
 pub mod RowLemmas
 pub mod TopLemmas

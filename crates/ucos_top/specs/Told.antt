@@ -1,10 +1,12 @@
 -- What a run of the program says where its source and its sink tell their bytes.
-use Rattle.std.specs.Prelude.{◌≡◌, ℕ, List, [], ◌⊎◌, Option, Some, IfSome}
+use Rattle.std.specs.Prelude.{◌≡◌, ℕ, List, [], ◌++◌, ◌⊎◌, Option, Some, IfSome, codes}
 use Rattle.std.specs.Io.KnownBytes.{Appends}
 use Rattle.outside.specs.Causes.{Rose}
 use Rattle.outside.specs.Written.{AppendsPrefix}
 use Rattle.program_model.specs.declared.statuses.Status.{Status}
 use Rattle.program_model.specs.declared.statuses.Status.TheVariants as status
+use Rattle.program_model.specs.declared.commands.Command.{Command}
+use Rattle.program_model.specs.declared.commands.Command.TheVariants.{Both}
 
 -- where the source told its bytes, all of them are read
 abbrev pub ReadWhole : Option (List ℕ) → Option (List ℕ) → Type 0
@@ -21,6 +23,7 @@ OrNoMemory result defined = (result ≡ defined) ⊎ (result ≡ status.NoMemory
 -- the statuses with which the whole defined text is written
 abbrev pub IsWhole : Status → Type 0
 IsWhole status.Done = Unit {0}
+IsWhole status.Broken = Unit {0}
 IsWhole status.Usage = Unit {0}
 IsWhole status.TooLong = Unit {0}
 IsWhole _ = ⊥
@@ -36,11 +39,13 @@ IsSilent _ = ⊥
 -- the statuses of a run that writes its whole text
 abbrev pub IsRun : Status → Type 0
 IsRun status.Done = Unit {0}
+IsRun status.Broken = Unit {0}
 IsRun _ = ⊥
 
 -- the statuses with which a command that reads has read its whole input
 abbrev pub IsAfterReading : Status → Type 0
 IsAfterReading status.Done = Unit {0}
+IsAfterReading status.Broken = Unit {0}
 IsAfterReading status.Refused = Unit {0}
 IsAfterReading status.WriteFault = Unit {0}
 IsAfterReading _ = ⊥
@@ -50,3 +55,15 @@ abbrev pub IsEarly : Status → Type 0
 IsEarly status.TooLong = Unit {0}
 IsEarly status.Refused = Unit {0}
 IsEarly _ = ⊥
+
+-- the command runs a case by both methods
+abbrev pub IsBoth : Option Command → Type 0
+IsBoth (Some (Both count)) = Unit {0}
+IsBoth _ = ⊥
+
+-- One task history is written under both headings, and the lines of premises that are held stand behind it. Each line of a
+-- history begins with a digit, and so none is a heading or the line of a premise.
+pub record WritesOneHistory (old new : Option (List ℕ)) : Type 0 where
+  pub history : List ℕ
+  pub rest : List ℕ
+  pub written : Appends old new (codes "method direct\n" ++ (history ++ (codes "method deferred\n" ++ (history ++ (codes "P1 held\nP2 held\nP3 held\nP4 held\n" ++ rest)))))

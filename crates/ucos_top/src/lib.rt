@@ -1,9 +1,11 @@
 //! The top call of the program: it takes the words, a source and a sink, and answers a status.
 #![tactic(auto)]
 
+mod both;
 mod case;
 mod causes;
 mod ends;
+mod history;
 mod listing;
 mod reading;
 mod text;

@@ -3,13 +3,14 @@ ghost use Rattle.std.specs.Io.KnownBytes.{Appends};
 ghost use Rattle.outside.specs.Causes.{Rose, DidNotRise};
 ghost use Rattle.outside.specs.Written.{AppendsPrefix};
 ghost use Rattle.program_model.specs.Words.{command_of, texts};
-ghost use Rattle.program_model.specs.Answer.{accepted_text, case_answer, defined, printed, Reads, TakesMemory};
+ghost use Rattle.program_model.specs.Answer.{accepted_status, accepted_text, case_answer, defined, printed, Reads, TakesMemory};
 ghost use Rattle.ucos_top.specs.Answers.{IsToRun};
 ghost use Rattle.program_model.specs.Case.{case_of};
 ghost use Rattle.program_model.specs.Refusals.{refusal_line};
 ghost use Rattle.program_model.specs.Limits.{IsWithinLimit, longest_input, most_task_steps};
-ghost use Rattle.ucos_top.specs.Told.{ReadWhole, AppendsUnlessRose, OrNoMemory, IsWhole, IsSilent, IsRun, IsAfterReading, IsEarly};
+ghost use Rattle.ucos_top.specs.Told.{ReadWhole, AppendsUnlessRose, OrNoMemory, IsWhole, IsSilent, IsRun, IsAfterReading, IsEarly, IsBoth, WritesOneHistory};
 
+use crate::both::compare;
 use crate::case::read_case;
 use crate::causes::{CaseError, refusal_line};
 use crate::listing::write_listing;
@@ -49,6 +50,9 @@ pub fn ucos_main<S: Source, K: Sink>(
     ensures whole { IsWhole result → IfSome (defined (texts words.now) (S.left source.old)) (λ a. result ≡ a.status) }
     ensures whole_text { IsWhole result → IfSome (defined (texts words.now) (S.left source.old))
         (λ a. Appends (K.held sink.old) (K.held sink.new) a.text) }
+
+    // The two posting methods: where both runs end with Done, the two task histories that were written are equal.
+    ensures one_history { result ≡ Status.Done → IsBoth (command_of (texts words.now)) → WritesOneHistory (K.held sink.old) (K.held sink.new) }
 
     // A refused case: its line is written, or a prefix of it where the sink's count rose.
     ensures refused { result ≡ Status.Refused → IfSome (defined (texts words.now) (S.left source.old)) (λ a. a.status ≡ Status.Refused) }
@@ -106,6 +110,7 @@ fn obey<K: Sink>(alloc: Global, command: Command, input: &[u8], sink: &mut K) ->
     ensures write_fault_text { result ≡ Status.WriteFault → AppendsPrefix (K.held sink.old) (K.held sink.new) (case_answer command (case_of input.now)).text }
     ensures whole { IsRun result → result ≡ (case_answer command (case_of input.now)).status }
     ensures whole_text { IsRun result → Appends (K.held sink.old) (K.held sink.new) (case_answer command (case_of input.now)).text }
+    ensures one_history { result ≡ Status.Done → IsBoth (Some command) → WritesOneHistory (K.held sink.old) (K.held sink.new) }
     ensures complete { DidNotRise (K.faults sink.old) (K.faults sink.new) → OrNoMemory result (case_answer command (case_of input.now)).status }
     ensures early { IsEarly (case_answer command (case_of input.now)).status → OrNoMemory result (case_answer command (case_of input.now)).status }
 {
@@ -136,15 +141,20 @@ fn run<K: Sink>(
 ) -> Status
     requires within { IsWithinLimit command }
     requires to_run { IsToRun image.now list.now }
-    ensures own { (result ≡ Status.NoMemory) ⊎ ((result ≡ Status.WriteFault) ⊎ (result ≡ Status.Done)) }
+    ensures own { (result ≡ Status.NoMemory) ⊎ ((result ≡ Status.WriteFault) ⊎ ((result ≡ Status.Done) ⊎ (result ≡ Status.Broken))) }
+    ensures status { (result ≡ Status.NoMemory) ⊎ ((result ≡ Status.WriteFault) ⊎ (result ≡ accepted_status command image.now list.now)) }
+    ensures is_run { IsRun (accepted_status command image.now list.now) }
     ensures sink_count { K.faults sink.old ≤ K.faults sink.new }
     ensures no_memory { result ≡ Status.NoMemory → sink.new ≡ sink.old }
     ensures write_fault { result ≡ Status.WriteFault → Rose (K.faults sink.old) (K.faults sink.new) }
     ensures write_fault_text { result ≡ Status.WriteFault → AppendsPrefix (K.held sink.old) (K.held sink.new) (accepted_text command image.now list.now) }
     ensures whole_text { result ≡ Status.Done → Appends (K.held sink.old) (K.held sink.new) (accepted_text command image.now list.now) }
+    ensures broken_text { result ≡ Status.Broken → Appends (K.held sink.old) (K.held sink.new) (accepted_text command image.now list.now) }
+    ensures one_history { result ≡ Status.Done → IsBoth (Some command) → WritesOneHistory (K.held sink.old) (K.held sink.new) }
 {
     match command {
         Command::Run(method, count) => run_case(alloc, image, list, method, count, sink),
+        Command::Both(count) => compare(alloc, image, list, count, sink),
         Command::Listing => ending(write_listing(image, sink)),
         Command::Binary => ending(write_image(image, sink)),
     }
@@ -152,7 +162,8 @@ fn run<K: Sink>(
 
 // How a command ends that wrote, and takes no memory.
 fn ending(written: Result<(), Failed>) -> Status
-    ensures { MatchResult written (λ _. result ≡ Status.Done) (λ _. result ≡ Status.WriteFault) }
+    ensures ends { MatchResult written (λ _. result ≡ Status.Done) (λ _. result ≡ Status.WriteFault) }
+    ensures own { (result ≡ Status.WriteFault) ⊎ (result ≡ Status.Done) }
 {
     match written {
         Ok(()) => Status::Done,

@@ -1,5 +1,5 @@
 use Rattle.std.specs.Prelude.{flat_map}
-use Rattle.std.proofs.Common.{◌≡◌, ℕ, List, ◌++◌, ap, refl, arith}
+use Rattle.std.proofs.Common.{◌++◌, ap, arith}
 use Rattle.std.proofs.Math.Nat.{mul-le-mul_right}
 use Rattle.kern_model.specs.Services.{program_serves}
 use Rattle.machine_model.specs.Text.{event_text, end_line}

@@ -7,4 +7,4 @@ use Rattle.ucos_top.proofs.top.run.Goals as goal
 pub returns-in-Binary-clause-whole_text : goal.returns-in-Binary-clause-whole_text
 returns-in-Binary-clause-whole_text g c =
     let e : c.args.command ≡ Binary = cc in
-    rw e (whole_written c.write_image.result c.ending-in-Binary.result _ _ _ c.ending-in-Binary.ensures c.write_image.ensures.bytes)
+    rw e (whole_written c.write_image.result c.ending-in-Binary.result _ _ _ c.ending-in-Binary.ensures.ends c.write_image.ensures.bytes)

@@ -1,0 +1,5 @@
+use Rattle.link_plans.proofs.CallTells.{block_tells, block_knows}
+use Rattle.link_plans.proofs.laws.a_block_tells.Goals as goal
+
+pub returns : goal.returns
+returns c = record { tasks = block_tells; objects = block_knows }

@@ -1,0 +1,5 @@
+use Rattle.link_plans.proofs.Follows.{renewals_follow}
+use Rattle.link_plans.proofs.laws.renewals_follow.Goals as goal
+
+pub returns : goal.returns
+returns c = renewals_follow

@@ -1,0 +1,5 @@
+use Rattle.link_plans.proofs.RenewalFits.{renewals_hold}
+use Rattle.link_plans.proofs.laws.renewals_hold.Goals as goal
+
+pub returns : goal.returns
+returns c = renewals_hold

@@ -1,0 +1,6 @@
+pub mod Matches
+pub mod WheelView
+pub mod TickRecord
+pub mod TimerRecord
+pub mod TimerSeen
+pub mod TimerView
