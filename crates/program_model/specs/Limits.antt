@@ -1,7 +1,7 @@
 -- The limits of what is read, asked for and generated.
 use Rattle.std.specs.Prelude.{◌≤◌, ℕ}
 use Rattle.program_model.specs.declared.commands.Command.{Command}
-use Rattle.program_model.specs.declared.commands.Command.TheVariants.{Run, Both, Listing, Binary}
+use Rattle.program_model.specs.declared.commands.Command.TheVariants.{Run, Both, Listing, Disassembly, Binary}
 
 -- the longest input that is read, in bytes
 abbrev pub longest_input : ℕ
@@ -20,4 +20,5 @@ abbrev pub IsWithinLimit : Command → Type 0
 IsWithinLimit (Run method count) = count ≤ most_task_steps
 IsWithinLimit (Both count) = count ≤ most_task_steps
 IsWithinLimit Listing = Unit {0}
+IsWithinLimit Disassembly = Unit {0}
 IsWithinLimit Binary = Unit {0}

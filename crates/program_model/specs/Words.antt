@@ -10,7 +10,7 @@ use Rattle.kern_base.specs.declared.kinds.Method.{Method}
 use Rattle.kern_base.specs.declared.kinds.Method.TheVariants.{Direct, Deferred}
 use Rattle.program_model.specs.Limits.{most_task_steps}
 use Rattle.program_model.specs.declared.commands.Command.{Command}
-use Rattle.program_model.specs.declared.commands.Command.TheVariants.{Run, Both, Listing, Binary}
+use Rattle.program_model.specs.declared.commands.Command.TheVariants.{Run, Both, Listing, Disassembly, Binary}
 
 -- the value of decimal digits behind a front of this value
 abbrev pub value_of : ℕ → List ℕ → ℕ
@@ -34,9 +34,12 @@ run_command None count = None
 run_command (Some method) None = None
 run_command (Some method) (Some count) = Some (Run method count)
 
--- `list` and `image`
+-- `list`, `dis` and `image`
 abbrev pub one_word : List ℕ → Option Command
-one_word first = if bytes_eq first (codes "list") then Some Listing else (if bytes_eq first (codes "image") then Some Binary else None)
+one_word first =
+    if bytes_eq first (codes "list") then Some Listing else
+    (if bytes_eq first (codes "dis") then Some Disassembly else
+    (if bytes_eq first (codes "image") then Some Binary else None))
 
 -- both methods to a number of task steps
 abbrev pub both_command : Option ℕ → Option Command

@@ -12,6 +12,8 @@ pub enum Command {
     Both(u32),
     /// The listing of the case's image.
     Listing,
+    /// The listing of the case's image that assembles back.
+    Disassembly,
     /// The case's image in the binary format.
     Binary,
 }

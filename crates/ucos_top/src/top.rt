@@ -23,6 +23,7 @@ use kern_base::Method;
 use machine_core::Machine;
 use outside::{Failed, Sink, Source};
 use program_model::{CaseCause, Command, Status};
+use rv32_listing::write_listing as write_disassembly;
 use std::alloc::Global;
 
 /// Does what the words ask for, and answers how it ended. The defined answer of the words is known
@@ -156,6 +157,7 @@ fn run<K: Sink>(
         Command::Run(method, count) => run_case(alloc, image, list, method, count, sink),
         Command::Both(count) => compare(alloc, image, list, count, sink),
         Command::Listing => ending(write_listing(image, sink)),
+        Command::Disassembly => ending(write_disassembly(image, sink)),
         Command::Binary => ending(write_image(image, sink)),
     }
 }

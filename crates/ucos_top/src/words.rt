@@ -6,14 +6,15 @@ use crate::COUNT_LIMIT;
 use kern_base::Method;
 use program_model::Command;
 
-/// The command that the words are, if they are one: `run direct N`, `run deferred N`, `both N`, `list` or
-/// `image`.
+/// The command that the words are, if they are one: `run direct N`, `run deferred N`, `both N`, `list`,
+/// `dis` or `image`.
 pub fn command_of(words: &[String]) -> Option<Command>
     ensures value { result ≡ command_of (texts words.now) }
     ensures within { IfSome result IsWithinLimit }
 {
     match words {
         [first] if first.as_str() == "list" => Some(Command::Listing),
+        [first] if first.as_str() == "dis" => Some(Command::Disassembly),
         [first] if first.as_str() == "image" => Some(Command::Binary),
         [first, count] if first.as_str() == "both" => {
             Some(Command::Both(count_of(count.as_bytes())?))
