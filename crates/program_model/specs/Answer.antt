@@ -7,7 +7,7 @@ use Rattle.program_model.specs.declared.statuses.Status.TheVariants as status
 use Rattle.program_model.specs.declared.commands.Command.{Command}
 use Rattle.program_model.specs.declared.commands.Command.TheVariants.{OnCase, Generate}
 use Rattle.program_model.specs.declared.commands.CaseCommand.{CaseCommand}
-use Rattle.program_model.specs.declared.commands.CaseCommand.TheVariants.{Run, Both, Listing, Binary}
+use Rattle.program_model.specs.declared.commands.CaseCommand.TheVariants.{Run, Both, Listing, Disassembly, Binary}
 use Rattle.kern_base.specs.declared.kinds.Method.{Method}
 use Rattle.kern_base.specs.declared.kinds.Method.TheVariants.{Direct, Deferred}
 use Rattle.kern_model.specs.Services.{program_serves}
@@ -16,6 +16,7 @@ use Rattle.app_image.specs.Layout.{layout}
 use Rattle.inject_list.specs.Lists.{ListRecord}
 use Rattle.machine_model.specs.Run.{run_text}
 use Rattle.machine_model.specs.Premises.{is_broken}
+use Rattle.rv32_listing.specs.Disassembly.{disassembly}
 use Rattle.program_model.specs.Both.{run_of, both_text}
 use Rattle.program_model.specs.Generated.{generated}
 use Rattle.program_model.specs.Case.{Case, Accepts, Refuses, case_of}
@@ -44,6 +45,7 @@ abbrev pub accepted_text : CaseCommand → ImageRecord → ListRecord → List �
 accepted_text (Run method count) image l = printed method image l count
 accepted_text (Both count) image l = compared image l count
 accepted_text Listing image l = listing image
+accepted_text Disassembly image l = disassembly image
 accepted_text Binary image l = layout image
 
 -- how a command ends that has written all this
@@ -51,6 +53,7 @@ abbrev pub accepted_status : CaseCommand → ImageRecord → ListRecord → Stat
 accepted_status (Run method count) image l = status.Done
 accepted_status (Both count) image l = compared_status image l count
 accepted_status Listing image l = status.Done
+accepted_status Disassembly image l = status.Done
 accepted_status Binary image l = status.Done
 
 -- of a command on the case that was read

@@ -3,7 +3,7 @@ use Rattle.std.specs.Prelude.{◌≤◌, ℕ}
 use Rattle.program_model.specs.declared.commands.Command.{Command}
 use Rattle.program_model.specs.declared.commands.Command.TheVariants.{OnCase, Generate}
 use Rattle.program_model.specs.declared.commands.CaseCommand.{CaseCommand}
-use Rattle.program_model.specs.declared.commands.CaseCommand.TheVariants.{Run, Both, Listing, Binary}
+use Rattle.program_model.specs.declared.commands.CaseCommand.TheVariants.{Run, Both, Listing, Disassembly, Binary}
 
 -- the longest input that is read, in bytes
 abbrev pub longest_input : ℕ
@@ -22,6 +22,7 @@ abbrev pub IsCaseWithinLimit : CaseCommand → Type 0
 IsCaseWithinLimit (Run method count) = count ≤ most_task_steps
 IsCaseWithinLimit (Both count) = count ≤ most_task_steps
 IsCaseWithinLimit Listing = Unit {0}
+IsCaseWithinLimit Disassembly = Unit {0}
 IsCaseWithinLimit Binary = Unit {0}
 
 -- and a generated case at most 16,384 lines of interrupts

@@ -11,7 +11,7 @@ use Rattle.kern_base.specs.declared.kinds.Method.TheVariants.{Direct, Deferred}
 use Rattle.program_model.specs.Limits.{most_task_steps, most_lines}
 use Rattle.program_model.specs.declared.commands.Command.{Command}
 use Rattle.program_model.specs.declared.commands.Command.TheVariants.{OnCase, Generate}
-use Rattle.program_model.specs.declared.commands.CaseCommand.TheVariants.{Run, Both, Listing, Binary}
+use Rattle.program_model.specs.declared.commands.CaseCommand.TheVariants.{Run, Both, Listing, Disassembly, Binary}
 
 -- the value of decimal digits behind a front of this value
 abbrev pub value_of : ℕ → List ℕ → ℕ
@@ -48,9 +48,12 @@ run_command None count = None
 run_command (Some method) None = None
 run_command (Some method) (Some count) = Some (OnCase (Run method count))
 
--- `list` and `image`
+-- `list`, `dis` and `image`
 abbrev pub one_word : List ℕ → Option Command
-one_word first = if bytes_eq first (codes "list") then Some (OnCase Listing) else (if bytes_eq first (codes "image") then Some (OnCase Binary) else None)
+one_word first =
+    if bytes_eq first (codes "list") then Some (OnCase Listing) else
+    (if bytes_eq first (codes "dis") then Some (OnCase Disassembly) else
+    (if bytes_eq first (codes "image") then Some (OnCase Binary) else None))
 
 -- both methods to a number of task steps
 abbrev pub both_command : Option ℕ → Option Command

@@ -21,6 +21,8 @@ pub enum CaseCommand {
     Both(u32),
     /// The listing of the case's image.
     Listing,
+    /// The listing of the case's image that assembles back.
+    Disassembly,
     /// The case's image in the binary format.
     Binary,
 }

@@ -24,6 +24,7 @@ use kern_base::Method;
 use machine_core::Machine;
 use outside::{Failed, Sink, Source};
 use program_model::{CaseCause, CaseCommand, Command, Status};
+use rv32_listing::write_listing as write_disassembly;
 use std::alloc::Global;
 
 /// Does what the words ask for, and answers how it ended. The defined answer of the words is known
@@ -158,6 +159,7 @@ fn run<K: Sink>(
         CaseCommand::Run(method, count) => run_case(alloc, image, list, method, count, sink),
         CaseCommand::Both(count) => compare(alloc, image, list, count, sink),
         CaseCommand::Listing => ending(write_listing(image, sink)),
+        CaseCommand::Disassembly => ending(write_disassembly(image, sink)),
         CaseCommand::Binary => ending(write_image(image, sink)),
     }
 }

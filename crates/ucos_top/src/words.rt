@@ -7,13 +7,14 @@ use kern_base::Method;
 use program_model::{CaseCommand, Command};
 
 /// The command that the words are, if they are one: `run direct N`, `run deferred N`, `both N`, `list`,
-/// `image` or `gen SEED SIZE`.
+/// `dis`, `image` or `gen SEED SIZE`.
 pub fn command_of(words: &[String]) -> Option<Command>
     ensures value { result ≡ command_of (texts words.now) }
     ensures within { IfSome result IsWithinLimit }
 {
     match words {
         [first] if first.as_str() == "list" => Some(Command::OnCase(CaseCommand::Listing)),
+        [first] if first.as_str() == "dis" => Some(Command::OnCase(CaseCommand::Disassembly)),
         [first] if first.as_str() == "image" => Some(Command::OnCase(CaseCommand::Binary)),
         [first, count] if first.as_str() == "both" => {
             let count = count_of(count.as_bytes())?;
