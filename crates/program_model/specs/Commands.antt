@@ -16,6 +16,8 @@ pub data AnyCommand : Type 0 where
   Both : ℕ → AnyCommand
   -- the listing of the case
   Listing : AnyCommand
+  -- the listing of the case that assembles back
+  Disassembly : AnyCommand
   -- the binary image of the case
   Binary : AnyCommand
   -- the generated case for a seed and a size
@@ -37,9 +39,12 @@ seed_word word = number_word 20 0 (2 ^ 64 - 1) word
 abbrev pub size_word : List ℕ → Option ℕ
 size_word word = number_word 5 1 most_lines word
 
--- `list` and `image`
+-- `list`, `dis` and `image`
 abbrev pub alone : List ℕ → Option AnyCommand
-alone word = if bytes_eq word (codes "list") then Some Listing else (if bytes_eq word (codes "image") then Some Binary else None)
+alone word =
+    if bytes_eq word (codes "list") then Some Listing else
+    (if bytes_eq word (codes "dis") then Some Disassembly else
+    (if bytes_eq word (codes "image") then Some Binary else None))
 
 -- a method and a number of task steps behind `run`
 abbrev pub run_words : List ℕ → List ℕ → Option AnyCommand

@@ -12,6 +12,7 @@ use Rattle.machine_model.specs.declared.events.What.TheVariants.{Call}
 use Rattle.machine_model.specs.Text.{in_history}
 use Rattle.machine_model.specs.Run.{Run, run_text}
 use Rattle.machine_model.specs.Premises.{premise_lines, is_broken}
+use Rattle.rv32_listing.specs.Disassembly.{disassembly}
 use Rattle.program_model.specs.Limits.{longest_input}
 use Rattle.program_model.specs.Both.{Runs, runs_of, both_text}
 use Rattle.program_model.specs.Commands.{AnyCommand, any_command}
@@ -77,6 +78,7 @@ module _ (served : Service → Bool) where
   accepted_answer (command.Run method n) image l = answers Done (run_text served method image l n)
   accepted_answer (command.Both n) image l = let r = runs_of served image l n in answers (runs_status r) (both_text image r)
   accepted_answer command.Listing image l = answers Done (listing image)
+  accepted_answer command.Disassembly image l = answers Done (disassembly image)
   accepted_answer command.Binary image l = answers Done (layout image)
   accepted_answer (command.Generate seed size) image l = answers Done (generated seed size)
   accepted_answer (command.Soak seed size) image l = let r = runs_of served image l (steps_for size) in answers (runs_status r) (summary seed size image r)

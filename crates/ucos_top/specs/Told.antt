@@ -6,7 +6,8 @@ use Rattle.outside.specs.Written.{AppendsPrefix}
 use Rattle.program_model.specs.declared.statuses.Status.{Status}
 use Rattle.program_model.specs.declared.statuses.Status.TheVariants as status
 use Rattle.program_model.specs.declared.commands.Command.{Command}
-use Rattle.program_model.specs.declared.commands.Command.TheVariants.{Both}
+use Rattle.program_model.specs.declared.commands.Command.TheVariants.{OnCase}
+use Rattle.program_model.specs.declared.commands.CaseCommand.TheVariants.{Both}
 
 -- where the source told its bytes, all of them are read
 abbrev pub ReadWhole : Option (List ℕ) → Option (List ℕ) → Type 0
@@ -58,7 +59,7 @@ IsEarly _ = ⊥
 
 -- the command runs a case by both methods
 abbrev pub IsBoth : Option Command → Type 0
-IsBoth (Some (Both count)) = Unit {0}
+IsBoth (Some (OnCase (Both count))) = Unit {0}
 IsBoth _ = ⊥
 
 -- One task history is written under both headings, and the lines of premises that are held stand behind it. Each line of a

@@ -6,6 +6,29 @@ use std::test::Fail;
 use ucos_top::Status;
 
 // What `list` prints of the first text.
+const FIRST_DISASSEMBLED: &str = ".code
+code_word_at_address_0: addi x10, x0, 0
+code_word_at_address_4: addi x17, x0, 1
+code_word_at_address_8: ecall
+code_word_at_address_12: addi x10, x0, 0
+code_word_at_address_16: addi x17, x0, 7
+code_word_at_address_20: ecall
+code_word_at_address_24: jal x0, code_word_at_address_0
+.ram
+.sem s, 0
+.task a, 0, 10, 0, 0, 1310720
+.config isr_limit, 256
+.config defer_size, 16
+.config pool, 64
+.config tmr_div, 10
+.config round_robin, 1
+.config quanta, 10
+.config tick_prio, 1
+.config tmr_prio, 62
+.config tmr_sp, 1310720
+.config insert, 0
+";
+
 const FIRST_LISTED: &str = "task 0 a 0 10 0 0 1310720
 obj 0 s sem 0
 word 0 00000513
@@ -302,6 +325,7 @@ fn written(alloc: Global, words: &str, input: &[u8]) -> Result<Vec<u8>, Fail> {
 fn every_text_is_listed_and_run(rt: HostRuntime) -> Result<(), Fail> {
     for (words, text, want) in [
         ("list", FIRST, FIRST_LISTED),
+        ("dis", FIRST, FIRST_DISASSEMBLED),
         ("list", KINDS, KINDS_LISTED),
         ("list", SENSOR, SENSOR_LISTED),
         ("run direct 13", DIVISIONS, DIVISIONS_TO_13),
@@ -403,13 +427,27 @@ fn the_first_image_has_its_layout(rt: HostRuntime) -> Result<(), Fail> {
     Ok(())
 }
 
+// The listing of a text assembles to the image of the text, and is its own listing.
+#[test]
+fn a_listing_assembles_back(rt: HostRuntime) -> Result<(), Fail> {
+    for text in [FIRST, PING, WAITERS, KINDS, DIVISIONS, SENSOR] {
+        let listing = written(rt.alloc(), "dis", text.as_bytes())?;
+        for words in ["image", "dis"] {
+            let of_text = written(rt.alloc(), words, text.as_bytes())?;
+            let of_listing = written(rt.alloc(), words, &listing)?;
+            assert_eq!(rt; of_listing, of_text, "{words} on {text}");
+        }
+    }
+    Ok(())
+}
+
 // The image of a text runs and is listed as the text, and its own image is the same.
 #[test]
 fn an_image_is_as_good_as_its_text(rt: HostRuntime) -> Result<(), Fail> {
     for text in [FIRST, PING, WAITERS, KINDS, DIVISIONS] {
         let (status, image) = answer(rt.alloc(), &Given::new("image", text.as_bytes()))?;
         assert_eq!(rt; status, Status::Done, "{text}");
-        for words in ["run direct 30", "list", "image"] {
+        for words in ["run direct 30", "list", "dis", "image"] {
             let of_text = written(rt.alloc(), words, text.as_bytes())?;
             let of_image = written(rt.alloc(), words, &image)?;
             assert_eq!(rt; of_image, of_text, "{words} on {text}");
