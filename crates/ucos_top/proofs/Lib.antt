@@ -1,3 +1,4 @@
+pub mod CauseLaws
 pub mod CaseLaws
 pub mod CompareLaws
 pub mod Digits

@@ -1,5 +1,5 @@
 use Rattle.std.specs.Prelude.{codes}
-use Rattle.std.proofs.Common.{◌≡◌, ◌++◌, [], List, ℕ, refl, sym, ap, ◌∙◌, append_assoc, append-nil}
+use Rattle.std.proofs.Common.{◌≡◌, ◌++◌, [], List, ℕ, refl, sym, ap, ◌∙◌, append_assoc, append-nil, ◌≤◌, arith}
 use Rattle.std.proofs.KnownBytes.{Appends-trans, Appends-nil}
 use Rattle.std.proofs.lemmas.Result.{err_from_is_err_and}
 use Rattle.std.specs.Io.KnownBytes.{Appends}
@@ -9,6 +9,7 @@ use Rattle.kern_base.specs.declared.kinds.Method.TheVariants.{Direct, Deferred}
 use Rattle.machine_model.specs.Premises.{premises, premise_lines}
 use Rattle.machine_model.specs.Run.{history}
 use Rattle.program_model.specs.Both.{run_of, both_text, raw_line}
+use Rattle.ucos_top.proofs.CauseLaws.{cause-err}
 use Rattle.ucos_top.proofs.both.write_both.Goals as goal
 
 -- a prefix of the first heading is written
@@ -193,3 +194,33 @@ returns-clause-broken g c = λ list ef.
     let rf = run_of Deferred c.args.image.now list c.args.count in
     let watched : c.in_ok-second.second.premises ≡ premises rf.events = rw c.requires.deferred.0 at (c.in_ok-second.ensures.premises list ef) in
     c.is_broken.ensures rf watched
+
+pub returns-in_err-second-clause-cause : goal.returns-in_err-second-clause-cause
+returns-in_err-second-clause-cause g c =
+    let p = err_from_is_err_and c.from_residual-in_err-second.result c.from_residual-in_err-second.ensures.1 in
+    let f = g.K.Sink.faults in
+    let l0 = c.in_ok-write.ensures.cause.later in
+    let l1 = c.in_ok-first.ensures.cause.later in
+    let l2 = c.in_ok-write-2.ensures.cause.later in
+    cause-err (f c.args.sink.now) (f c.write-2.new.self) (f c.write_history-2.new.sink) p.0 c.from_residual-in_err-second.result (omega arith) c.in_err-second.ensures.cause.later c.in_err-second.ensures.cause.failed p.1
+
+pub returns-in_err-write_premises-clause-cause : goal.returns-in_err-write_premises-clause-cause
+returns-in_err-write_premises-clause-cause g c =
+    let p = err_from_is_err_and c.from_residual-in_err-write_premises.result c.from_residual-in_err-write_premises.ensures.1 in
+    let f = g.K.Sink.faults in
+    let l0 = c.in_ok-write.ensures.cause.later in
+    let l1 = c.in_ok-first.ensures.cause.later in
+    let l2 = c.in_ok-write-2.ensures.cause.later in
+    let l3 = c.in_ok-second.ensures.cause.later in
+    cause-err (f c.args.sink.now) (f c.write_history-2.new.sink) (f c.write_premises.new.sink) p.0 c.from_residual-in_err-write_premises.result (omega arith) c.in_err-write_premises.ensures.cause.later c.in_err-write_premises.ensures.cause.failed p.1
+
+pub returns-in_err-write-3-clause-cause : goal.returns-in_err-write-3-clause-cause
+returns-in_err-write-3-clause-cause g c =
+    let p = err_from_is_err_and c.from_residual-in_err-write-3.result c.from_residual-in_err-write-3.ensures.1 in
+    let f = g.K.Sink.faults in
+    let l0 = c.in_ok-write.ensures.cause.later in
+    let l1 = c.in_ok-first.ensures.cause.later in
+    let l2 = c.in_ok-write-2.ensures.cause.later in
+    let l3 = c.in_ok-second.ensures.cause.later in
+    let l4 = c.in_ok-write_premises.ensures.cause.later in
+    cause-err (f c.args.sink.now) (f c.write_premises.new.sink) (f c.write-3.new.self) p.0 c.from_residual-in_err-write-3.result (omega arith) c.in_err-write-3.ensures.cause.later c.in_err-write-3.ensures.cause.failed p.1

@@ -10,6 +10,7 @@ use Rattle.machine_model.specs.Text.{event_text, end_line}
 use Rattle.machine_model.proofs.CountLaws.{t-next}
 use Rattle.machine_model.proofs.RunLaws.{printed_nothing, printed_more, printed_all}
 use Rattle.program_model.specs.Answer.{printed}
+use Rattle.ucos_top.proofs.CauseLaws.{cause-after}
 use Rattle.ucos_top.proofs.text.write_run.Goals as goal
 
 pub running-init : goal.running-init
@@ -74,3 +75,6 @@ returns-clause-bytes g c = λ list e.
     let last : c.as_slice.result.now ≡ end_line state.s state.t = cc in
     let said = rw last at c.write.ensures.bytes in
     WritesPiece-after c.write.result _ _ _ front _ _ written said (printed_all program_serves c.args.machine.method c.args.image.now list c.args.count front state (printed list e) at_end)
+
+pub returns-clause-cause : goal.returns-clause-cause
+returns-clause-cause g c = cause-after (g.K.Sink.faults c.args.sink.now) (g.K.Sink.faults c.running.sink) (g.K.Sink.faults c.write.new.self) c.write.result c.running.invariant.later c.write.ensures.cause
