@@ -1,4 +1,5 @@
-//! Whole steps, made on the lists one micro-step at a time, over both kinds of links and over links that count what is read.
+//! Whole steps, made on the lists and by the kernel one micro-step at a time, over both kinds of links and over links that count
+//! what is read.
 #![tactic(auto)]
 
 #[cfg(test)]
