@@ -4,6 +4,7 @@
 mod both;
 mod case;
 mod causes;
+mod disassembly;
 mod ends;
 mod history;
 mod listing;

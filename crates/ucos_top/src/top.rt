@@ -5,14 +5,15 @@ ghost use Rattle.outside.specs.Written.{AppendsPrefix};
 ghost use Rattle.program_model.specs.Words.{command_of, texts};
 ghost use Rattle.program_model.specs.Answer.{accepted_status, accepted_text, case_answer, defined, printed, Reads, TakesMemory};
 ghost use Rattle.ucos_top.specs.Answers.{IsToRun};
-ghost use Rattle.program_model.specs.Case.{case_of};
+ghost use Rattle.program_model.specs.Case.{Accepts, case_of};
 ghost use Rattle.program_model.specs.Refusals.{refusal_line};
 ghost use Rattle.program_model.specs.Limits.{IsWithinLimit, longest_input, most_task_steps};
-ghost use Rattle.ucos_top.specs.Told.{ReadWhole, AppendsUnlessRose, OrNoMemory, IsWhole, IsSilent, IsRun, IsAfterReading, IsEarly, IsBoth, WritesOneHistory};
+ghost use Rattle.ucos_top.specs.Told.{ReadWhole, AppendsUnlessRose, OrNoMemory, IsWhole, IsSilent, IsRun, IsAfterReading, IsEarly, IsBoth, WritesOneHistory, IsDisassembly, WritesItsCase};
 
 use crate::both::compare;
 use crate::case::read_case;
 use crate::causes::{CaseError, refusal_line};
+use crate::disassembly::disassemble;
 use crate::listing::write_listing;
 use crate::reading::{InputError, read_input};
 use crate::text::write_run;
@@ -23,7 +24,6 @@ use kern_base::Method;
 use machine_core::Machine;
 use outside::{Failed, Sink, Source};
 use program_model::{CaseCause, Command, Status};
-use rv32_listing::write_listing as write_disassembly;
 use std::alloc::Global;
 
 /// Does what the words ask for, and answers how it ended. The defined answer of the words is known
@@ -54,6 +54,10 @@ pub fn ucos_main<S: Source, K: Sink>(
 
     // The two posting methods: where both runs end with Done, the two task histories that were written are equal.
     ensures one_history { result ≡ Status.Done → IsBoth (command_of (texts words.now)) → WritesOneHistory (K.held sink.old) (K.held sink.new) }
+
+    // The listing that assembles back: what was written is a case with the image of the case that was read.
+    ensures its_case { result ≡ Status.Done → IsDisassembly (command_of (texts words.now)) → IfSome (S.left source.old)
+        (λ input. WritesItsCase (case_of input) (K.held sink.old) (K.held sink.new)) }
 
     // A refused case: its line is written, or a prefix of it where the sink's count rose.
     ensures refused { result ≡ Status.Refused → IfSome (defined (texts words.now) (S.left source.old)) (λ a. a.status ≡ Status.Refused) }
@@ -112,6 +116,7 @@ fn obey<K: Sink>(alloc: Global, command: Command, input: &[u8], sink: &mut K) ->
     ensures whole { IsRun result → result ≡ (case_answer command (case_of input.now)).status }
     ensures whole_text { IsRun result → Appends (K.held sink.old) (K.held sink.new) (case_answer command (case_of input.now)).text }
     ensures one_history { result ≡ Status.Done → IsBoth (Some command) → WritesOneHistory (K.held sink.old) (K.held sink.new) }
+    ensures its_case { result ≡ Status.Done → IsDisassembly (Some command) → WritesItsCase (case_of input.now) (K.held sink.old) (K.held sink.new) }
     ensures complete { DidNotRise (K.faults sink.old) (K.faults sink.new) → OrNoMemory result (case_answer command (case_of input.now)).status }
     ensures early { IsEarly (case_answer command (case_of input.now)).status → OrNoMemory result (case_answer command (case_of input.now)).status }
 {
@@ -152,18 +157,19 @@ fn run<K: Sink>(
     ensures whole_text { result ≡ Status.Done → Appends (K.held sink.old) (K.held sink.new) (accepted_text command image.now list.now) }
     ensures broken_text { result ≡ Status.Broken → Appends (K.held sink.old) (K.held sink.new) (accepted_text command image.now list.now) }
     ensures one_history { result ≡ Status.Done → IsBoth (Some command) → WritesOneHistory (K.held sink.old) (K.held sink.new) }
+    ensures its_case { result ≡ Status.Done → IsDisassembly (Some command) → WritesItsCase (Accepts image.now list.now) (K.held sink.old) (K.held sink.new) }
 {
     match command {
         Command::Run(method, count) => run_case(alloc, image, list, method, count, sink),
         Command::Both(count) => compare(alloc, image, list, count, sink),
         Command::Listing => ending(write_listing(image, sink)),
-        Command::Disassembly => ending(write_disassembly(image, sink)),
+        Command::Disassembly => disassemble(image, sink),
         Command::Binary => ending(write_image(image, sink)),
     }
 }
 
 // How a command ends that wrote, and takes no memory.
-fn ending(written: Result<(), Failed>) -> Status
+pub fn ending(written: Result<(), Failed>) -> Status
     ensures ends { MatchResult written (λ _. result ≡ Status.Done) (λ _. result ≡ Status.WriteFault) }
     ensures own { (result ≡ Status.WriteFault) ⊎ (result ≡ Status.Done) }
 {
