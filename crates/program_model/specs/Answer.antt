@@ -5,7 +5,9 @@ use Rattle.program_model.specs.Limits.{longest_input}
 use Rattle.program_model.specs.declared.statuses.Status.{Status}
 use Rattle.program_model.specs.declared.statuses.Status.TheVariants as status
 use Rattle.program_model.specs.declared.commands.Command.{Command}
-use Rattle.program_model.specs.declared.commands.Command.TheVariants.{Run, Both, Listing, Disassembly, Binary}
+use Rattle.program_model.specs.declared.commands.Command.TheVariants.{OnCase, Generate}
+use Rattle.program_model.specs.declared.commands.CaseCommand.{CaseCommand}
+use Rattle.program_model.specs.declared.commands.CaseCommand.TheVariants.{Run, Both, Listing, Disassembly, Binary}
 use Rattle.kern_base.specs.declared.kinds.Method.{Method}
 use Rattle.kern_base.specs.declared.kinds.Method.TheVariants.{Direct, Deferred}
 use Rattle.kern_model.specs.Services.{program_serves}
@@ -16,6 +18,7 @@ use Rattle.machine_model.specs.Run.{run_text}
 use Rattle.machine_model.specs.Premises.{is_broken}
 use Rattle.rv32_listing.specs.Disassembly.{disassembly}
 use Rattle.program_model.specs.Both.{run_of, both_text}
+use Rattle.program_model.specs.Generated.{generated}
 use Rattle.program_model.specs.Case.{Case, Accepts, Refuses, case_of}
 use Rattle.program_model.specs.Listing.{listing}
 use Rattle.program_model.specs.Refusals.{refusal_line}
@@ -38,7 +41,7 @@ unfoldable pub compared_status : ImageRecord → ListRecord → ℕ → Status
 compared_status image l count = if is_broken (run_of Deferred image l count) then status.Broken else status.Done
 
 -- what a command writes of an image and its injections
-abbrev pub accepted_text : Command → ImageRecord → ListRecord → List ℕ
+abbrev pub accepted_text : CaseCommand → ImageRecord → ListRecord → List ℕ
 accepted_text (Run method count) image l = printed method image l count
 accepted_text (Both count) image l = compared image l count
 accepted_text Listing image l = listing image
@@ -46,7 +49,7 @@ accepted_text Disassembly image l = disassembly image
 accepted_text Binary image l = layout image
 
 -- how a command ends that has written all this
-abbrev pub accepted_status : Command → ImageRecord → ListRecord → Status
+abbrev pub accepted_status : CaseCommand → ImageRecord → ListRecord → Status
 accepted_status (Run method count) image l = status.Done
 accepted_status (Both count) image l = compared_status image l count
 accepted_status Listing image l = status.Done
@@ -54,14 +57,15 @@ accepted_status Disassembly image l = status.Done
 accepted_status Binary image l = status.Done
 
 -- of a command on the case that was read
-abbrev pub case_answer : Command → Case → Answer
+abbrev pub case_answer : CaseCommand → Case → Answer
 case_answer command (Refuses line cause) = record { status = status.Refused; text = refusal_line line cause }
 case_answer command (Accepts image l) = record { status = accepted_status command image l; text = accepted_text command image l }
 
--- of a command on an input
+-- of a command on an input; a generated case is made of its seed and its size, and nothing is read
 abbrev pub command_answer : Option Command → List ℕ → Answer
 command_answer None input = record { status = status.Usage; text = [] }
-command_answer (Some command) input = if nat_lt longest_input (length input) then record { status = status.TooLong; text = [] } else case_answer command (case_of input)
+command_answer (Some (OnCase command)) input = if nat_lt longest_input (length input) then record { status = status.TooLong; text = [] } else case_answer command (case_of input)
+command_answer (Some (Generate seed size)) input = record { status = status.Done; text = generated seed size }
 
 -- of the words on an input
 abbrev pub answer : List (List ℕ) → List ℕ → Answer
@@ -69,18 +73,18 @@ answer words input = command_answer (command_of words) input
 
 -- the command reads the source
 abbrev pub Reads : Option Command → Type 0
-Reads None = ⊥
-Reads (Some command) = Unit {0}
+Reads (Some (OnCase command)) = Unit {0}
+Reads _ = ⊥
 
 -- the command takes memory
 abbrev pub TakesMemory : Option Command → Type 0
-TakesMemory None = ⊥
-TakesMemory (Some command) = Unit {0}
+TakesMemory (Some (OnCase command)) = Unit {0}
+TakesMemory _ = ⊥
 
 -- the input that the answer speaks of: what the source tells, or nothing where nothing is read
 abbrev pub known_input : Option Command → Option (List ℕ) → Option (List ℕ)
-known_input None left = Some []
-known_input (Some command) left = left
+known_input (Some (OnCase command)) left = left
+known_input _ left = Some []
 
 -- the defined answer of a command, where its input is known
 abbrev pub defined_of : Option Command → Option (List ℕ) → Option Answer

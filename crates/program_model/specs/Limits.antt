@@ -1,7 +1,9 @@
 -- The limits of what is read, asked for and generated.
 use Rattle.std.specs.Prelude.{◌≤◌, ℕ}
 use Rattle.program_model.specs.declared.commands.Command.{Command}
-use Rattle.program_model.specs.declared.commands.Command.TheVariants.{Run, Both, Listing, Disassembly, Binary}
+use Rattle.program_model.specs.declared.commands.Command.TheVariants.{OnCase, Generate}
+use Rattle.program_model.specs.declared.commands.CaseCommand.{CaseCommand}
+use Rattle.program_model.specs.declared.commands.CaseCommand.TheVariants.{Run, Both, Listing, Disassembly, Binary}
 
 -- the longest input that is read, in bytes
 abbrev pub longest_input : ℕ
@@ -16,9 +18,14 @@ abbrev pub most_lines : ℕ
 most_lines = 16384
 
 -- a run, also one of two, has at most 1,000,000 task steps
+abbrev pub IsCaseWithinLimit : CaseCommand → Type 0
+IsCaseWithinLimit (Run method count) = count ≤ most_task_steps
+IsCaseWithinLimit (Both count) = count ≤ most_task_steps
+IsCaseWithinLimit Listing = Unit {0}
+IsCaseWithinLimit Disassembly = Unit {0}
+IsCaseWithinLimit Binary = Unit {0}
+
+-- and a generated case at most 16,384 lines of interrupts
 abbrev pub IsWithinLimit : Command → Type 0
-IsWithinLimit (Run method count) = count ≤ most_task_steps
-IsWithinLimit (Both count) = count ≤ most_task_steps
-IsWithinLimit Listing = Unit {0}
-IsWithinLimit Disassembly = Unit {0}
-IsWithinLimit Binary = Unit {0}
+IsWithinLimit (OnCase command) = IsCaseWithinLimit command
+IsWithinLimit (Generate seed size) = size ≤ most_lines

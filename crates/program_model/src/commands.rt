@@ -5,6 +5,15 @@ use kern_base::Method;
 /// What the words ask for.
 #[derive(Clone, Copy, Debug, PartialEq, Eq)]
 pub enum Command {
+    /// What is to be done with the case that is read.
+    OnCase(CaseCommand),
+    /// The text of a generated case: its seed, and how many lines of interrupts it has, 1 to 16,384.
+    Generate(u64, u32),
+}
+
+/// What is to be done with a case.
+#[derive(Clone, Copy, Debug, PartialEq, Eq)]
+pub enum CaseCommand {
     /// The printed run of the case by a posting method to so many task steps, at most 1,000,000.
     Run(Method, u32),
     /// The task histories of the case by both posting methods to so many task steps, at most 1,000,000, and

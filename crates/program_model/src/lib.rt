@@ -7,5 +7,5 @@ mod commands;
 mod statuses;
 
 pub use causes::CaseCause;
-pub use commands::Command;
+pub use commands::{CaseCommand, Command};
 pub use statuses::Status;

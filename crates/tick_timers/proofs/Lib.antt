@@ -1,4 +1,5 @@
 pub mod Given
+pub mod Chained
 pub mod Filters
 pub mod Slots
 pub mod Wheel

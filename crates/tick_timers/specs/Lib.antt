@@ -1,4 +1,5 @@
 pub mod Matches
+pub mod GivingView
 pub mod WheelView
 pub mod TickRecord
 pub mod TimerRecord

@@ -1,6 +1,7 @@
 mod both;
 mod cases;
 mod deferred;
+mod generated;
 mod interrupts;
 
 use outside::{MemSink, MemSource};
@@ -368,6 +369,14 @@ fn words_that_are_no_command_write_nothing(rt: HostRuntime) -> Result<(), Fail> 
         "both 5 5",
         "both direct 5",
         "both 1000001",
+        "gen",
+        "gen 1",
+        "gen 1 0",
+        "gen 1 16385",
+        "gen 1 000001",
+        "gen -1 5",
+        "gen 18446744073709551616 5",
+        "gen 000000000000000000001 5",
         "--help",
         "list 5",
         "image image",

@@ -9,6 +9,8 @@ use Rattle.program_model.specs.Limits.{longest_input}
 use Rattle.program_model.specs.declared.statuses.Status.{Status}
 use Rattle.program_model.specs.declared.statuses.Status.TheVariants.{Done, WriteFault}
 use Rattle.program_model.specs.declared.commands.Command.{Command}
+use Rattle.program_model.specs.declared.commands.Command.TheVariants.{OnCase, Generate}
+use Rattle.program_model.specs.declared.commands.CaseCommand.{CaseCommand}
 use Rattle.program_model.specs.Answer.{Answer, case_answer, command_answer, defined_of}
 use Rattle.program_model.specs.Case.{case_of}
 use Rattle.ucos_top.specs.Told.{AppendsUnlessRose}
@@ -24,7 +26,7 @@ whole_written (Ok x) ending old new text ends p done = p
 whole_written (Err x) ending old new text ends p done = absurd cc
 
 -- what holds of the answer on the bytes that were read holds of the defined answer
-pub told_answer : (words : Option Command) (command : Command) (input : List ℕ) (left : Option (List ℕ)) (P : Answer → Type 0) → words ≡ Some command
+pub told_answer : (words : Option Command) (command : CaseCommand) (input : List ℕ) (left : Option (List ℕ)) (P : Answer → Type 0) → words ≡ Some (OnCase command)
     → length input ≤ longest_input → IfSome left (λ b. input ≡ b) → P (case_answer command (case_of input)) → IfSome (defined_of words left) P
 told_answer words command input None P e short same p = rw e tt
 told_answer words command input (Some bytes) P e short same p =
@@ -34,4 +36,5 @@ told_answer words command input (Some bytes) P e short same p =
 -- the defined answer is the answer on the bytes that the source told
 pub answer_told : (command : Option Command) (input : List ℕ) (P : Answer → Type 0) → IfSome (defined_of command (Some input)) P → P (command_answer command input)
 answer_told None input P p = p
-answer_told (Some command) input P p = p
+answer_told (Some (OnCase command)) input P p = p
+answer_told (Some (Generate seed size)) input P p = p

@@ -10,7 +10,8 @@ use Rattle.program_model.specs.Case.{Case, Accepts, case_of}
 use Rattle.program_model.specs.declared.statuses.Status.{Status}
 use Rattle.program_model.specs.declared.statuses.Status.TheVariants as status
 use Rattle.program_model.specs.declared.commands.Command.{Command}
-use Rattle.program_model.specs.declared.commands.Command.TheVariants.{Both, Disassembly}
+use Rattle.program_model.specs.declared.commands.Command.TheVariants.{OnCase}
+use Rattle.program_model.specs.declared.commands.CaseCommand.TheVariants.{Both, Disassembly}
 
 -- where the source told its bytes, all of them are read
 abbrev pub ReadWhole : Option (List ℕ) → Option (List ℕ) → Type 0
@@ -62,12 +63,12 @@ IsEarly _ = ⊥
 
 -- the command runs a case by both methods
 abbrev pub IsBoth : Option Command → Type 0
-IsBoth (Some (Both count)) = Unit {0}
+IsBoth (Some (OnCase (Both count))) = Unit {0}
 IsBoth _ = ⊥
 
 -- the command lists a case so that the listing assembles back
 abbrev pub IsDisassembly : Option Command → Type 0
-IsDisassembly (Some Disassembly) = Unit {0}
+IsDisassembly (Some (OnCase Disassembly)) = Unit {0}
 IsDisassembly _ = ⊥
 
 -- What was written is a case itself: its image is that of the case that was read, but for the numbers of lines, and it has no

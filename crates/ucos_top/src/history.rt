@@ -5,11 +5,13 @@ ghost use Rattle.outside.specs.Causes.{HasCause};
 ghost use Rattle.outside.specs.Written.{WritesPiece};
 ghost use Rattle.inject_list.specs.Lists.{ListRecord};
 ghost use Rattle.machine_model.specs.Machine.{start};
+ghost use Rattle.machine_model.specs.Text.{IsPrintable, event_history};
 ghost use Rattle.machine_model.specs.Run.{history};
 ghost use Rattle.machine_model.specs.Premises.{premises};
 ghost use Rattle.program_model.specs.Both.{run_of};
 ghost use Rattle.program_model.specs.Limits.{most_task_steps};
 
+use crate::text::is_silent;
 use app_image::Image;
 use arrayvec::ArrayVec;
 use machine_core::{Event, Machine, What};
@@ -26,11 +28,22 @@ pub struct Ended {
     pub premises: Premises,
 }
 
-// Writes some lines in one write, where there are any.
-fn write_lines<K: Sink>(lines: &ArrayVec<u8, 512>, sink: &mut K) -> Result<(), Failed>
-    ensures bytes { WritesPiece (K.held sink.old) (K.held sink.new) result lines.now.items }
+// Writes what a history keeps of an event, in one write, where it keeps something. The lines are made in `lines`.
+fn write_kept<K: Sink>(
+    event: &Event,
+    image: &Image,
+    lines: &mut ArrayVec<u8, 512>,
+    sink: &mut K,
+) -> Result<(), Failed>
+    requires room { IsPrintable event.now.what }
+    ensures bytes { WritesPiece (K.held sink.old) (K.held sink.new) result (event_history image.now event.now) }
     ensures cause { HasCause (K.faults sink.old) (K.faults sink.new) result }
 {
+    if is_silent(event) {
+        return Ok(());
+    }
+    lines.clear();
+    history_of(event, image, lines);
     if lines.is_empty() {
         return Ok(());
     }
@@ -67,9 +80,7 @@ pub fn write_history<K: Sink>(
     'running: while machine.task_steps() < count {
         machine.step_into(&mut event);
         premises.watch(&event);
-        lines.clear();
-        history_of(&event, image, &mut lines);
-        write_lines(&lines, sink)?;
+        write_kept(&event, image, &mut lines, sink)?;
     }
     let raw_steps = machine.raw_steps();
     let line = end_of_history(machine.task_steps());

@@ -16,7 +16,7 @@ mod words;
 pub use causes::CaseError;
 pub use ends::every_run_comes_to_its_end;
 pub use listing::write_listing;
-pub use program_model::{CaseCause, Command, Status};
+pub use program_model::{CaseCause, CaseCommand, Command, Status};
 pub use top::ucos_main;
 pub use words::command_of;
 
@@ -25,3 +25,6 @@ pub const INPUT_LIMIT: usize = 4_194_304;
 
 /// The most task steps that a run may be asked for.
 pub const COUNT_LIMIT: u32 = 1_000_000;
+
+/// The most lines of interrupts that a generated case may be asked for.
+pub const SIZE_LIMIT: u32 = 16_384;

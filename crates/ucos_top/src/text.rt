@@ -6,7 +6,7 @@ ghost use Rattle.outside.specs.Causes.{HasCause};
 ghost use Rattle.outside.specs.Written.{WritesPiece};
 ghost use Rattle.inject_list.specs.Lists.{ListRecord};
 ghost use Rattle.machine_model.specs.Machine.{start};
-ghost use Rattle.machine_model.specs.Text.{IsPrintable, event_text};
+ghost use Rattle.machine_model.specs.Text.{IsPrintable, event_history, event_text};
 ghost use Rattle.program_model.specs.Answer.{printed};
 ghost use Rattle.program_model.specs.Limits.{most_task_steps};
 
@@ -16,9 +16,10 @@ use machine_core::{Event, Machine, What};
 use outside::{Failed, Sink};
 use run_printer::{end_of_run, line_of};
 
-// Whether an event prints nothing, as most do.
-fn is_silent(event: &Event) -> bool
-    ensures { (image : ImageRecord) → result ≡ true → event_text image event.now ≡ [] }
+// Whether an event prints nothing, as most do, and so has nothing for a history.
+pub(crate) fn is_silent(event: &Event) -> bool
+    ensures text { (image : ImageRecord) → result ≡ true → event_text image event.now ≡ [] }
+    ensures history { (image : ImageRecord) → result ≡ true → event_history image event.now ≡ [] }
 {
     matches!(event.what, What::Quiet) && event.switch.is_none()
 }

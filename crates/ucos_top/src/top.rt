@@ -7,7 +7,7 @@ ghost use Rattle.program_model.specs.Answer.{accepted_status, accepted_text, cas
 ghost use Rattle.ucos_top.specs.Answers.{IsToRun};
 ghost use Rattle.program_model.specs.Case.{Accepts, case_of};
 ghost use Rattle.program_model.specs.Refusals.{refusal_line};
-ghost use Rattle.program_model.specs.Limits.{IsWithinLimit, longest_input, most_task_steps};
+ghost use Rattle.program_model.specs.Limits.{IsCaseWithinLimit, longest_input, most_task_steps};
 ghost use Rattle.ucos_top.specs.Told.{ReadWhole, AppendsUnlessRose, OrNoMemory, IsWhole, IsSilent, IsRun, IsAfterReading, IsEarly, IsBoth, WritesOneHistory, IsDisassembly, WritesItsCase};
 
 use crate::both::compare;
@@ -19,11 +19,12 @@ use crate::reading::{InputError, read_input};
 use crate::text::write_run;
 use crate::words::command_of;
 use app_image::{Image, write_image};
+use case_gen::generate;
 use inject_list::InjectList;
 use kern_base::Method;
 use machine_core::Machine;
 use outside::{Failed, Sink, Source};
-use program_model::{CaseCause, Command, Status};
+use program_model::{CaseCause, CaseCommand, Command, Status};
 use std::alloc::Global;
 
 /// Does what the words ask for, and answers how it ended. The defined answer of the words is known
@@ -92,7 +93,8 @@ pub fn ucos_main<S: Source, K: Sink>(
 {
     match command_of(words) {
         None => Status::Usage,
-        Some(command) => match read_input(alloc, source) {
+        Some(Command::Generate(seed, size)) => ending(generate(seed, size, sink)),
+        Some(Command::OnCase(command)) => match read_input(alloc, source) {
             Ok(input) => obey(alloc, command, input.as_slice(), sink),
             Err(InputError::Fault) => Status::ReadFault,
             Err(InputError::TooLong) => Status::TooLong,
@@ -102,9 +104,9 @@ pub fn ucos_main<S: Source, K: Sink>(
 }
 
 // Does a command on an input that was read whole.
-fn obey<K: Sink>(alloc: Global, command: Command, input: &[u8], sink: &mut K) -> Status
+fn obey<K: Sink>(alloc: Global, command: CaseCommand, input: &[u8], sink: &mut K) -> Status
     requires short { length input.now ≤ longest_input }
-    requires within { IsWithinLimit command }
+    requires within { IsCaseWithinLimit command }
     ensures own { (result ≢ Status.Usage) × (result ≢ Status.ReadFault) × (result ≢ Status.TooLong) }
     ensures sink_count { K.faults sink.old ≤ K.faults sink.new }
     ensures no_memory { result ≡ Status.NoMemory → sink.new ≡ sink.old }
@@ -115,8 +117,8 @@ fn obey<K: Sink>(alloc: Global, command: Command, input: &[u8], sink: &mut K) ->
     ensures write_fault_text { result ≡ Status.WriteFault → AppendsPrefix (K.held sink.old) (K.held sink.new) (case_answer command (case_of input.now)).text }
     ensures whole { IsRun result → result ≡ (case_answer command (case_of input.now)).status }
     ensures whole_text { IsRun result → Appends (K.held sink.old) (K.held sink.new) (case_answer command (case_of input.now)).text }
-    ensures one_history { result ≡ Status.Done → IsBoth (Some command) → WritesOneHistory (K.held sink.old) (K.held sink.new) }
-    ensures its_case { result ≡ Status.Done → IsDisassembly (Some command) → WritesItsCase (case_of input.now) (K.held sink.old) (K.held sink.new) }
+    ensures one_history { result ≡ Status.Done → IsBoth (Some (Command.OnCase command)) → WritesOneHistory (K.held sink.old) (K.held sink.new) }
+    ensures its_case { result ≡ Status.Done → IsDisassembly (Some (Command.OnCase command)) → WritesItsCase (case_of input.now) (K.held sink.old) (K.held sink.new) }
     ensures complete { DidNotRise (K.faults sink.old) (K.faults sink.new) → OrNoMemory result (case_answer command (case_of input.now)).status }
     ensures early { IsEarly (case_answer command (case_of input.now)).status → OrNoMemory result (case_answer command (case_of input.now)).status }
 {
@@ -140,12 +142,12 @@ fn refuse<K: Sink>(line: u32, cause: CaseCause, sink: &mut K) -> Status
 // Does a command on an accepted case. All memory is taken before the first write.
 fn run<K: Sink>(
     alloc: Global,
-    command: Command,
+    command: CaseCommand,
     image: &Image,
     list: &InjectList,
     sink: &mut K,
 ) -> Status
-    requires within { IsWithinLimit command }
+    requires within { IsCaseWithinLimit command }
     requires to_run { IsToRun image.now list.now }
     ensures own { (result ≡ Status.NoMemory) ⊎ ((result ≡ Status.WriteFault) ⊎ ((result ≡ Status.Done) ⊎ (result ≡ Status.Broken))) }
     ensures status { (result ≡ Status.NoMemory) ⊎ ((result ≡ Status.WriteFault) ⊎ (result ≡ accepted_status command image.now list.now)) }
@@ -156,15 +158,15 @@ fn run<K: Sink>(
     ensures write_fault_text { result ≡ Status.WriteFault → AppendsPrefix (K.held sink.old) (K.held sink.new) (accepted_text command image.now list.now) }
     ensures whole_text { result ≡ Status.Done → Appends (K.held sink.old) (K.held sink.new) (accepted_text command image.now list.now) }
     ensures broken_text { result ≡ Status.Broken → Appends (K.held sink.old) (K.held sink.new) (accepted_text command image.now list.now) }
-    ensures one_history { result ≡ Status.Done → IsBoth (Some command) → WritesOneHistory (K.held sink.old) (K.held sink.new) }
-    ensures its_case { result ≡ Status.Done → IsDisassembly (Some command) → WritesItsCase (Accepts image.now list.now) (K.held sink.old) (K.held sink.new) }
+    ensures one_history { result ≡ Status.Done → IsBoth (Some (Command.OnCase command)) → WritesOneHistory (K.held sink.old) (K.held sink.new) }
+    ensures its_case { result ≡ Status.Done → IsDisassembly (Some (Command.OnCase command)) → WritesItsCase (Accepts image.now list.now) (K.held sink.old) (K.held sink.new) }
 {
     match command {
-        Command::Run(method, count) => run_case(alloc, image, list, method, count, sink),
-        Command::Both(count) => compare(alloc, image, list, count, sink),
-        Command::Listing => ending(write_listing(image, sink)),
-        Command::Disassembly => disassemble(image, sink),
-        Command::Binary => ending(write_image(image, sink)),
+        CaseCommand::Run(method, count) => run_case(alloc, image, list, method, count, sink),
+        CaseCommand::Both(count) => compare(alloc, image, list, count, sink),
+        CaseCommand::Listing => ending(write_listing(image, sink)),
+        CaseCommand::Disassembly => disassemble(image, sink),
+        CaseCommand::Binary => ending(write_image(image, sink)),
     }
 }
 

@@ -32,7 +32,7 @@ running-preserved g c =
     let open_yet : state.t < c.args.count = omega (arith, c.running-test.true, c.task_steps.ensures) in
     let falls : events_left c.args.count (next program_serves c.args.machine.method state).1 < events_left c.args.count state = rw (c.step_into.ensures.machine, same) at (c.step_into.ensures.fewer c.args.count open_yet) in
     let some : 0 < events_left c.args.count state = omega (arith, falls) in
-    let said = rw (c.history_of.ensures, c.step_into.ensures.event, same) at c.in_ok-write_lines.ensures.bytes in
+    let said = rw (c.step_into.ensures.event, same) at c.in_ok-write_kept.ensures.bytes in
     let seen = rw (c.step_into.ensures.event, same) at (c.watch.ensures events watched) in
     record {
       written = (
@@ -46,16 +46,16 @@ running-preserved g c =
       method = rw c.step_into.ensures.machine same;
       within = rw (c.step_into.ensures.machine, same) (omega (arith, t-next program_serves c.args.machine.method state, open_yet));
       bound = c.running.invariant.bound;
-      later = omega (arith, c.running.invariant.later, c.in_ok-write_lines.ensures.cause.later);
+      later = omega (arith, c.running.invariant.later, c.in_ok-write_kept.ensures.cause.later);
     }
 
 pub running-smaller : goal.running-smaller
 running-smaller g c = c.step_into.ensures.fewer c.args.count (omega (arith, c.running-test.true, c.task_steps.ensures))
 
 -- a prefix of what the event tells is written, behind what was told before
-pub returns-in_err-write_lines-clause-bytes : goal.returns-in_err-write_lines-clause-bytes
+pub returns-in_err-write_kept-clause-bytes : goal.returns-in_err-write_kept-clause-bytes
 unfolding run_of
-returns-in_err-write_lines-clause-bytes g c = λ list e.
+returns-in_err-write_kept-clause-bytes g c = λ list e.
     let p = err_from_is_err_and c.from_residual.result c.from_residual.ensures.1 in
     let (front, events, written, watched, told) = c.running.invariant.written in
     let state = c.running.machine.state in
@@ -64,8 +64,8 @@ returns-in_err-write_lines-clause-bytes g c = λ list e.
     let falls : events_left c.args.count (next program_serves c.args.machine.method state).1 < events_left c.args.count state = rw (c.step_into.ensures.machine, same) at (c.step_into.ensures.fewer c.args.count open_yet) in
     let some : 0 < events_left c.args.count state = omega (arith, falls) in
     let next_one = told_more program_serves c.args.machine.method c.args.image.now list c.args.count front events state (told list e) open_yet some in
-    let said = rw (c.history_of.ensures, c.step_into.ensures.event, same) at c.in_err-write_lines.ensures.bytes in
-    rw p.1 (AppendsPrefix-after (g.K.Sink.held c.args.sink.now) (g.K.Sink.held c.running.sink) (g.K.Sink.held c.write_lines.new.sink)
+    let said = rw (c.step_into.ensures.event, same) at c.in_err-write_kept.ensures.bytes in
+    rw p.1 (AppendsPrefix-after (g.K.Sink.held c.args.sink.now) (g.K.Sink.held c.running.sink) (g.K.Sink.held c.write_kept.new.sink)
     front (event_history c.args.image.now (next program_serves c.args.machine.method state).0) next_one.rest
     (history c.args.image.now (run program_serves c.args.machine.method c.args.image.now list c.args.count)) written said next_one.follows)
 

@@ -1,5 +1,5 @@
 use Rattle.std.proofs.Common.{◌≡◌}
-use Rattle.program_model.specs.declared.commands.Command.TheVariants.{Binary}
+use Rattle.program_model.specs.declared.commands.CaseCommand.TheVariants.{Binary}
 use Rattle.ucos_top.proofs.TopLemmas.{whole_written}
 use Rattle.ucos_top.proofs.top.run.Goals as goal
 
