@@ -4,10 +4,13 @@
 mod both;
 mod case;
 mod causes;
+mod counting;
 mod ends;
 mod history;
 mod listing;
+mod pieces;
 mod reading;
+mod soak;
 mod text;
 mod top;
 mod words;

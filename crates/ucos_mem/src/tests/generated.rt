@@ -57,3 +57,38 @@ fn a_failing_write_leaves_whole_lines_and_a_part(rt: HostRuntime) -> Result<(), 
     }
     Ok(())
 }
+
+// The part of a line behind its raw steps.
+fn counts_in(line: &[u8]) -> Option<&[u8]> {
+    let place = line
+        .windows(7)
+        .position(|part| part == b" calls ".as_slice())?;
+    line.get(place..)
+}
+
+// Of a run that keeps the premises both histories have as many calls, switches and lines. Nothing is read.
+#[test]
+fn both_runs_of_a_generated_case_are_counted(rt: HostRuntime) -> Result<(), Fail> {
+    for (words, first) in [
+        ("soak 1 100", "soak 1 100 n 4100"),
+        ("soak 0007 0001", "soak 7 1 n 140"),
+    ] {
+        let given = Given {
+            read_fails: 1,
+            ..Given::new(words, b"")
+        };
+        let (status, held) = answer(rt.alloc(), &given)?;
+        let mut lines = held.as_slice().split(|byte| *byte == b'\n');
+        assert_eq!(rt; status, Status::Done, "{words}");
+        assert_eq!(rt; lines.next(), Some(first.as_bytes()), "{words}");
+        let direct = lines.next().unwrap_or(&[]);
+        let deferred = lines.next().unwrap_or(&[]);
+        assert!(rt; direct.starts_with(b"direct raw "), "{words}");
+        assert!(rt; deferred.starts_with(b"deferred raw "), "{words}");
+        assert_eq!(rt; counts_in(direct), counts_in(deferred), "{words}");
+        for line in ["P1 held", "P2 held", "P3 held", "P4 held", ""] {
+            assert_eq!(rt; lines.next(), Some(line.as_bytes()), "{words}");
+        }
+    }
+    Ok(())
+}
