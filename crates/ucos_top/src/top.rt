@@ -6,8 +6,9 @@ ghost use Rattle.program_model.specs.Words.{command_of, texts};
 ghost use Rattle.program_model.specs.Answer.{accepted_status, accepted_text, case_answer, defined, printed, Reads, TakesMemory};
 ghost use Rattle.ucos_top.specs.Answers.{IsToRun};
 ghost use Rattle.program_model.specs.Case.{Accepts, case_of};
+ghost use Rattle.program_model.specs.Generated.{generated};
 ghost use Rattle.program_model.specs.Refusals.{refusal_line};
-ghost use Rattle.program_model.specs.Limits.{IsCaseWithinLimit, longest_input, most_task_steps};
+ghost use Rattle.program_model.specs.Limits.{IsCaseWithinLimit, longest_input, most_lines, most_task_steps};
 ghost use Rattle.ucos_top.specs.Told.{ReadWhole, AppendsUnlessRose, OrNoMemory, IsWhole, IsSilent, IsRun, IsAfterReading, IsEarly, IsBoth, WritesOneHistory, IsDisassembly, WritesItsCase};
 
 use crate::both::compare;
@@ -16,6 +17,7 @@ use crate::causes::{CaseError, refusal_line};
 use crate::disassembly::disassemble;
 use crate::listing::write_listing;
 use crate::reading::{InputError, read_input};
+use crate::soak::{generated_text, summarize};
 use crate::text::write_run;
 use crate::words::command_of;
 use app_image::{Image, write_image};
@@ -94,6 +96,7 @@ pub fn ucos_main<S: Source, K: Sink>(
     match command_of(words) {
         None => Status::Usage,
         Some(Command::Generate(seed, size)) => ending(generate(seed, size, sink)),
+        Some(Command::Soak(seed, size)) => soak(alloc, seed, size, sink),
         Some(Command::OnCase(command)) => match read_input(alloc, source) {
             Ok(input) => obey(alloc, command, input.as_slice(), sink),
             Err(InputError::Fault) => Status::ReadFault,
@@ -126,6 +129,28 @@ fn obey<K: Sink>(alloc: Global, command: CaseCommand, input: &[u8], sink: &mut K
         Ok((image, list)) => run(alloc, command, &image, &list, sink),
         Err(CaseError::NoMemory) => Status::NoMemory,
         Err(CaseError::At(line, cause)) => refuse(line, cause, sink),
+    }
+}
+
+// Makes a generated case in memory, and does what is asked of it.
+fn soak<K: Sink>(alloc: Global, seed: u64, size: u32, sink: &mut K) -> Status
+    requires size { size ≤ most_lines }
+    ensures own { (result ≢ Status.Usage) × (result ≢ Status.ReadFault) × (result ≢ Status.TooLong) }
+    ensures sink_count { K.faults sink.old ≤ K.faults sink.new }
+    ensures no_memory { result ≡ Status.NoMemory → sink.new ≡ sink.old }
+    ensures refused { result ≡ Status.Refused → (case_answer (CaseCommand.Summary seed size) (case_of (generated seed size))).status ≡ Status.Refused }
+    ensures refused_text { result ≡ Status.Refused → AppendsUnlessRose (K.held sink.old) (K.held sink.new) (K.faults sink.old) (K.faults sink.new) (case_answer (CaseCommand.Summary seed size) (case_of (generated seed size))).text }
+    ensures write_fault { result ≡ Status.WriteFault → Rose (K.faults sink.old) (K.faults sink.new) }
+    ensures write_fault_run { result ≡ Status.WriteFault → IsRun (case_answer (CaseCommand.Summary seed size) (case_of (generated seed size))).status }
+    ensures write_fault_text { result ≡ Status.WriteFault → AppendsPrefix (K.held sink.old) (K.held sink.new) (case_answer (CaseCommand.Summary seed size) (case_of (generated seed size))).text }
+    ensures whole { IsRun result → result ≡ (case_answer (CaseCommand.Summary seed size) (case_of (generated seed size))).status }
+    ensures whole_text { IsRun result → Appends (K.held sink.old) (K.held sink.new) (case_answer (CaseCommand.Summary seed size) (case_of (generated seed size))).text }
+    ensures complete { DidNotRise (K.faults sink.old) (K.faults sink.new) → OrNoMemory result (case_answer (CaseCommand.Summary seed size) (case_of (generated seed size))).status }
+    ensures early { IsEarly (case_answer (CaseCommand.Summary seed size) (case_of (generated seed size))).status → OrNoMemory result (case_answer (CaseCommand.Summary seed size) (case_of (generated seed size))).status }
+{
+    match generated_text(alloc, seed, size) {
+        Ok(text) => obey(alloc, CaseCommand::Summary(seed, size), text.bytes(), sink),
+        Err(_) => Status::NoMemory,
     }
 }
 
@@ -167,6 +192,7 @@ fn run<K: Sink>(
         CaseCommand::Listing => ending(write_listing(image, sink)),
         CaseCommand::Disassembly => disassemble(image, sink),
         CaseCommand::Binary => ending(write_image(image, sink)),
+        CaseCommand::Summary(seed, size) => summarize(alloc, image, list, seed, size, sink),
     }
 }
 
