@@ -36,7 +36,7 @@ HasMeaning cause = 0 < length (meaning (cause_name cause))
 abbrev pub ending : Status → List ℕ
 ending Done = []
 ending Broken = []
-ending Usage = codes "usage: ucos3 run direct N < CASE     print the run of a case to N task steps, 0 to 1,000,000; interrupt code posts at once\n       ucos3 run deferred N < CASE   the same, where what interrupt code posts waits for the handler\n       ucos3 both N < CASE           print both task histories, and the premises under which they are equal\n       ucos3 list < CASE             print what a case declares, its code and its initial RAM\n       ucos3 dis < CASE              print the case as a listing that assembles back\n       ucos3 image < CASE            write the binary image of a case\n       ucos3 gen SEED SIZE           write a generated case with SIZE lines of interrupts, 1 to 16384\n"
+ending Usage = codes "usage: ucos3 run direct N < CASE     print the run of a case to N task steps, 0 to 1,000,000; interrupt code posts at once\n       ucos3 run deferred N < CASE   the same, where what interrupt code posts waits for the handler\n       ucos3 both N < CASE           print both task histories, and the premises under which they are equal\n       ucos3 list < CASE             print what a case declares, its code and its initial RAM\n       ucos3 dis < CASE              print the case as a listing that assembles back\n       ucos3 image < CASE            write the binary image of a case\n       ucos3 gen SEED SIZE           write a generated case with SIZE lines of interrupts, 1 to 16384\n       ucos3 soak SEED SIZE          print a summary of both runs of that case\n"
 ending Refused = []
 ending ReadFault = codes "the standard input could not be read; nothing was written\n"
 ending WriteFault = codes "the standard output could not be written; what was written is a prefix of the text\n"

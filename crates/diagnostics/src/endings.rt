@@ -13,6 +13,7 @@ usage: ucos3 run direct N < CASE     print the run of a case to N task steps, 0 
        ucos3 dis < CASE              print the case as a listing that assembles back
        ucos3 image < CASE            write the binary image of a case
        ucos3 gen SEED SIZE           write a generated case with SIZE lines of interrupts, 1 to 16384
+       ucos3 soak SEED SIZE          print a summary of both runs of that case
 ";
 
 // What is told of an end, in whole lines; nothing where all was written, nor of a refused case, of which its

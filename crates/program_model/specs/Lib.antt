@@ -1,6 +1,5 @@
 pub mod Limits
 pub mod Words
-pub mod Commands
 pub mod Application
 pub mod Draws
 pub mod Generated
@@ -9,6 +8,6 @@ pub mod Refusals
 pub mod Listing
 pub mod Statuses
 pub mod Both
+pub mod Summary
 pub mod Answer
 pub mod Ends
-pub mod Whole

@@ -1,9 +1,9 @@
 -- The limits of what is read, asked for and generated.
 use Rattle.std.specs.Prelude.{◌≤◌, ℕ}
 use Rattle.program_model.specs.declared.commands.Command.{Command}
-use Rattle.program_model.specs.declared.commands.Command.TheVariants.{OnCase, Generate}
+use Rattle.program_model.specs.declared.commands.Command.TheVariants.{OnCase, Generate, Soak}
 use Rattle.program_model.specs.declared.commands.CaseCommand.{CaseCommand}
-use Rattle.program_model.specs.declared.commands.CaseCommand.TheVariants.{Run, Both, Listing, Disassembly, Binary}
+use Rattle.program_model.specs.declared.commands.CaseCommand.TheVariants.{Run, Both, Listing, Disassembly, Binary, Summary}
 
 -- the longest input that is read, in bytes
 abbrev pub longest_input : ℕ
@@ -24,8 +24,10 @@ IsCaseWithinLimit (Both count) = count ≤ most_task_steps
 IsCaseWithinLimit Listing = Unit {0}
 IsCaseWithinLimit Disassembly = Unit {0}
 IsCaseWithinLimit Binary = Unit {0}
+IsCaseWithinLimit (Summary seed size) = size ≤ most_lines
 
 -- and a generated case at most 16,384 lines of interrupts
 abbrev pub IsWithinLimit : Command → Type 0
 IsWithinLimit (OnCase command) = IsCaseWithinLimit command
 IsWithinLimit (Generate seed size) = size ≤ most_lines
+IsWithinLimit (Soak seed size) = size ≤ most_lines

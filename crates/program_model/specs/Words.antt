@@ -10,7 +10,7 @@ use Rattle.kern_base.specs.declared.kinds.Method.{Method}
 use Rattle.kern_base.specs.declared.kinds.Method.TheVariants.{Direct, Deferred}
 use Rattle.program_model.specs.Limits.{most_task_steps, most_lines}
 use Rattle.program_model.specs.declared.commands.Command.{Command}
-use Rattle.program_model.specs.declared.commands.Command.TheVariants.{OnCase, Generate}
+use Rattle.program_model.specs.declared.commands.Command.TheVariants.{OnCase, Generate, Soak}
 use Rattle.program_model.specs.declared.commands.CaseCommand.TheVariants.{Run, Both, Listing, Disassembly, Binary}
 
 -- the value of decimal digits behind a front of this value
@@ -70,11 +70,18 @@ generate_command None size = None
 generate_command (Some seed) None = None
 generate_command (Some seed) (Some size) = Some (Generate seed size)
 
--- `run direct N`, `run deferred N` and `gen SEED SIZE`
+-- a summary of its runs
+abbrev pub soak_command : Option ℕ → Option ℕ → Option Command
+soak_command None size = None
+soak_command (Some seed) None = None
+soak_command (Some seed) (Some size) = Some (Soak seed size)
+
+-- `run direct N`, `run deferred N`, `gen SEED SIZE` and `soak SEED SIZE`
 abbrev pub three_words : List ℕ → List ℕ → List ℕ → Option Command
 three_words first second third =
     if bytes_eq first (codes "run") then run_command (method_word second) (count_word third) else
-    (if bytes_eq first (codes "gen") then generate_command (seed_word second) (size_word third) else None)
+    (if bytes_eq first (codes "gen") then generate_command (seed_word second) (size_word third) else
+    (if bytes_eq first (codes "soak") then soak_command (seed_word second) (size_word third) else None))
 
 -- the command that the words are
 abbrev pub command_of : List (List ℕ) → Option Command

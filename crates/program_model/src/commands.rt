@@ -9,6 +9,8 @@ pub enum Command {
     OnCase(CaseCommand),
     /// The text of a generated case: its seed, and how many lines of interrupts it has, 1 to 16,384.
     Generate(u64, u32),
+    /// A summary of both runs of the generated case of this seed and size.
+    Soak(u64, u32),
 }
 
 /// What is to be done with a case.
@@ -25,4 +27,6 @@ pub enum CaseCommand {
     Disassembly,
     /// The case's image in the binary format.
     Binary,
+    /// A summary of both runs of the case, which was generated for this seed and size.
+    Summary(u64, u32),
 }

@@ -2,16 +2,31 @@
 
 ghost use Rattle.std.specs.Prelude.{◌≡◌, ◌<◌, ◌≤◌, ◌+◌, ◌%◌, ◌^◌, ℕ, Bool, not, [], ◌∷◌, ◌++◌, drop, length, slice_get, IfOk, MatchOption, Some, ◌==◌};
 ghost use Rattle.kern_base.specs.declared.requests.Request.{Request as Asked};
-ghost use Rattle.kern_model.specs.State.{Kernel};
+ghost use Rattle.kern_model.specs.State.{Kernel, task_at};
 ghost use Rattle.kern_model.specs.Effect.{unmatched};
-ghost use Rattle.kern_model.specs.Time.{due, time_dly};
+ghost use Rattle.kern_model.specs.Time.{due, resumes_delayed, time_dly};
 ghost use Rattle.tick_timers.specs.Matches.{pairs, with_remainder, IsUnmatched};
-ghost use Rattle.tick_timers.specs.TickRecord.{delayed};
+ghost use Rattle.tick_timers.specs.TickRecord.{delayed, resumed};
 
 use crate::Match;
 use crate::wheels::Wheel;
-use kern_base::{OsErr, Request, TaskId};
+use decisions::{failure, success};
+use kern_base::{Answer, OsErr, Request, TaskId, Waiting};
 use std::marker::Model;
+
+/// What `OSTimeDlyResume` comes to, whose checks have passed, for a task that waits for this and is
+/// suspended so often: the task is woken, and this answers the caller; or the call is refused.
+pub fn decide_resume(waiting: Waiting, suspended: u8) -> Result<Answer, OsErr>
+    // It is what the service does, in every kernel where the task waits so.
+    ensures { (k : Kernel) (x compared : ℕ) → (task_at k x).suspended ≡ suspended →
+        resumes_delayed waiting x compared k ≡ resumed result x compared k }
+{
+    match waiting {
+        Waiting::Delay if suspended == 0 => Ok(success(0)),
+        Waiting::Delay => Ok(failure(OsErr::TaskSuspended)),
+        _ => Err(OsErr::TaskNotDelayed),
+    }
+}
 
 /// The tick counter, and the tasks that have a match: the tick at which a delay ends or a wait times out.
 /// Contracts see the counter, and the matches in the order in which they were given.
@@ -49,7 +64,7 @@ impl Ticks {
 
     /// What `OSTimeDly` comes to, whose checks have passed: the caller waits for so many ticks, at least
     /// one, or the call is refused with this error.
-    pub fn delay(&self, request: &Request, locked: bool) -> Result<u32, OsErr>
+    pub fn decide_delay(&self, request: &Request, locked: bool) -> Result<u32, OsErr>
         ensures some { IfOk result (λ ticks. 0 < ticks) }
 
         // It is what the service does, in every kernel with this counter and this lock.

@@ -1,8 +1,8 @@
 // The lists of the wheels, and timers that are started, stopped and fire.
 
-use crate::{Match, Ticks, Timers};
+use crate::{Match, Ticks, Timers, decide_resume};
 use app_image::{check, read_image};
-use kern_base::{ObjId, OsErr, TaskId};
+use kern_base::{ObjId, OsErr, Request, Service, TaskId, Waiting};
 use std::process::Abort;
 use std::test::Fail;
 
@@ -60,6 +60,40 @@ fn a_match_behind_the_counter_waits_for_the_next_round(rt: HostRuntime) {
     }
     ticks.remove(TaskId(0));
     assert_eq!(rt; ticks.slot(9), [].as_slice());
+}
+
+#[test]
+fn delays_are_decided(rt: HostRuntime) {
+    let mut ticks = Ticks::new();
+    ticks.tick();
+    for (time, option, locked, decision) in [
+        (5, 0, false, Ok(5)),
+        (5, 1, false, Ok(4)),
+        (0, 1, false, Ok(4_294_967_295)),
+        (0, 0, false, Err(OsErr::ZeroDelay)),
+        (1, 1, false, Err(OsErr::ZeroDelay)),
+        (0, 0, true, Err(OsErr::SchedLocked)),
+    ] {
+        let request = Request {
+            service: Service::TimeDly,
+            args: [time, option, 0, 0],
+            ids: [0; 8],
+            n_ids: 0,
+            table: false,
+        };
+        assert_eq!(rt; ticks.decide_delay(&request, locked), decision);
+    }
+    for (waiting, suspended, err) in [
+        (Waiting::Delay, 0, OsErr::NoError),
+        (Waiting::Delay, 2, OsErr::TaskSuspended),
+        (Waiting::TaskSem, 0, OsErr::TaskNotDelayed),
+    ] {
+        let found = match decide_resume(waiting, suspended) {
+            Ok(answer) => answer.err,
+            Err(refused) => refused,
+        };
+        assert_eq!(rt; found, err);
+    }
 }
 
 // Version 2: one code word that loops, task `a`, a one-shot timer `once` of 2 counts, and a periodic timer `again` of 3 and then 4

@@ -1,10 +1,12 @@
 pub mod CauseLaws
 pub mod CaseLaws
 pub mod CompareLaws
+pub mod CountLaws
 pub mod Digits
 pub mod HeldLaws
 pub mod HistoryLaws
 pub mod LookLaws
 pub mod RowLemmas
+pub mod TextLaws
 pub mod TopLemmas
 pub mod UsedLaws

@@ -9,7 +9,7 @@ use Rattle.program_model.specs.Limits.{longest_input}
 use Rattle.program_model.specs.declared.statuses.Status.{Status}
 use Rattle.program_model.specs.declared.statuses.Status.TheVariants.{Done, WriteFault}
 use Rattle.program_model.specs.declared.commands.Command.{Command}
-use Rattle.program_model.specs.declared.commands.Command.TheVariants.{OnCase, Generate}
+use Rattle.program_model.specs.declared.commands.Command.TheVariants.{OnCase, Generate, Soak}
 use Rattle.program_model.specs.declared.commands.CaseCommand.{CaseCommand}
 use Rattle.program_model.specs.Answer.{Answer, case_answer, command_answer, defined_of}
 use Rattle.program_model.specs.Case.{case_of}
@@ -38,3 +38,4 @@ pub answer_told : (command : Option Command) (input : List ℕ) (P : Answer → 
 answer_told None input P p = p
 answer_told (Some (OnCase command)) input P p = p
 answer_told (Some (Generate seed size)) input P p = p
+answer_told (Some (Soak seed size)) input P p = p

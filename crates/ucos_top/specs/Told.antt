@@ -3,11 +3,15 @@ use Rattle.std.specs.Prelude.{◌≡◌, ℕ, List, [], ◌++◌, ◌⊎◌, Opt
 use Rattle.std.specs.Io.KnownBytes.{Appends}
 use Rattle.outside.specs.Causes.{Rose}
 use Rattle.outside.specs.Written.{AppendsPrefix}
+use Rattle.app_image.specs.Image.{ImageRecord}
+use Rattle.app_image.specs.RoundTrip.{unlined}
+use Rattle.inject_list.specs.Lists.{ListRecord, no_injections}
+use Rattle.program_model.specs.Case.{Case, Accepts, case_of}
 use Rattle.program_model.specs.declared.statuses.Status.{Status}
 use Rattle.program_model.specs.declared.statuses.Status.TheVariants as status
 use Rattle.program_model.specs.declared.commands.Command.{Command}
 use Rattle.program_model.specs.declared.commands.Command.TheVariants.{OnCase}
-use Rattle.program_model.specs.declared.commands.CaseCommand.TheVariants.{Both}
+use Rattle.program_model.specs.declared.commands.CaseCommand.TheVariants.{Both, Disassembly}
 
 -- where the source told its bytes, all of them are read
 abbrev pub ReadWhole : Option (List ℕ) → Option (List ℕ) → Type 0
@@ -61,6 +65,23 @@ IsEarly _ = ⊥
 abbrev pub IsBoth : Option Command → Type 0
 IsBoth (Some (OnCase (Both count))) = Unit {0}
 IsBoth _ = ⊥
+
+-- the command lists a case so that the listing assembles back
+abbrev pub IsDisassembly : Option Command → Type 0
+IsDisassembly (Some (OnCase Disassembly)) = Unit {0}
+IsDisassembly _ = ⊥
+
+-- What was written is a case itself: its image is that of the case that was read, but for the numbers of lines, and it has no
+-- interrupts and no looks.
+pub record WritesItsCase (case : Case) (old new : Option (List ℕ)) : Type 0 where
+  pub image : ImageRecord
+  pub list : ListRecord
+  pub read : case ≡ Accepts image list
+  pub text : List ℕ
+  pub written : Appends old new text
+  pub lined : ImageRecord
+  pub back : case_of text ≡ Accepts lined no_injections
+  pub same : unlined lined ≡ unlined image
 
 -- One task history is written under both headings, and the lines of premises that are held stand behind it. Each line of a
 -- history begins with a digit, and so none is a heading or the line of a premise.

@@ -1,7 +1,6 @@
 // Both runs of a case: their task histories, the premises, and their raw steps.
 
-ghost use Rattle.std.specs.Prelude.{◌⊎◌, ◌≡◌, ◌≤◌, ◌++◌, ◌+◌, ◌==◌, false, if◌then◌else◌, [], length, codes, decimal, IfOk};
-ghost use Rattle.arrayvec.specs.ArrayVec.{array_vec_len};
+ghost use Rattle.std.specs.Prelude.{◌⊎◌, ◌≡◌, ◌≤◌, ◌==◌, false, if◌then◌else◌, [], length, codes, IfOk};
 ghost use Rattle.kern_base.specs.declared.kinds.Method.TheVariants.{Direct, Deferred};
 ghost use Rattle.std.specs.Io.KnownBytes.{Appends};
 ghost use Rattle.outside.specs.Causes.{HasCause, Rose};
@@ -18,37 +17,14 @@ ghost use Rattle.ucos_top.specs.Told.{IsRun, WritesOneHistory};
 
 use crate::history::write_history;
 use crate::machines::{ProgramMachine, load};
+use crate::pieces::{Line, push_bytes, push_count};
 use app_image::Image;
-use arrayvec::ArrayVec;
 use inject_list::InjectList;
-use itoa::Buffer;
 use kern_base::Method;
 use method_premises::Premises;
 use outside::{Failed, Sink};
 use program_model::Status;
 use std::alloc::Global;
-
-// A line while it is made.
-type Line = ArrayVec<u8, 64>;
-
-// Appends these bytes.
-fn push_bytes(line: &mut Line, bytes: &[u8])
-    requires room { array_vec_len line.old + length bytes.now ≤ 64 }
-    ensures items { line.new.items ≡ line.old.items ++ bytes.now }
-    ensures len { array_vec_len line.new ≡ array_vec_len line.old + length bytes.now }
-{
-    line.try_extend_from_slice(bytes).unwrap();
-}
-
-// Appends a count of raw steps, which has at most 20 digits.
-fn push_count(line: &mut Line, count: u64)
-    requires room { array_vec_len line.old + 20 ≤ 64 }
-    ensures items { line.new.items ≡ line.old.items ++ decimal count }
-    ensures len { array_vec_len line.new ≤ array_vec_len line.old + 20 }
-{
-    let mut buffer = Buffer::new();
-    push_bytes(line, buffer.format(count).as_bytes());
-}
 
 // The line of a premise, which is held, or broken behind so many raw steps.
 fn premise_line(name: &[u8], broken: Option<u64>) -> Line
@@ -102,8 +78,12 @@ fn write_fifth<K: Sink>(watched: &Premises, image: &Image, sink: &mut K) -> Resu
     Ok(())
 }
 
-// Writes the lines of the premises of a run.
-fn write_premises<K: Sink>(watched: &Premises, image: &Image, sink: &mut K) -> Result<(), Failed>
+/// Writes the lines of the premises of a run.
+pub fn write_premises<K: Sink>(
+    watched: &Premises,
+    image: &Image,
+    sink: &mut K,
+) -> Result<(), Failed>
     ensures bytes { (r : Run) → watched.now ≡ premises r.events
         → WritesPiece (K.held sink.old) (K.held sink.new) result (premise_lines image.now r) }
     ensures cause { HasCause (K.faults sink.old) (K.faults sink.new) result }
@@ -144,9 +124,9 @@ fn write_both<K: Sink>(
     Ok(second.premises.is_broken())
 }
 
-// The law of the two methods for a case: where the run by the deferred method breaks no premise, its history is that of the
-// direct run. An image is valid, and its numbers are words.
-fn histories_agree(image: &Image, list: &InjectList, count: u32)
+/// The law of the two methods for a case: where the run by the deferred method breaks no premise, its history is that of the
+/// direct run. An image is valid, and its numbers are words.
+pub fn histories_agree(image: &Image, list: &InjectList, count: u32)
     requires { IsValidList image.now list.now }
     ensures { is_broken (run_of Deferred image.now list.now count) ≡ false
         → history image.now (run_of Deferred image.now list.now count) ≡ history image.now (run_of Direct image.now list.now count) }

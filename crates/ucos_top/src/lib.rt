@@ -4,11 +4,15 @@
 mod both;
 mod case;
 mod causes;
+mod counting;
+mod disassembly;
 mod ends;
 mod history;
 mod listing;
 mod machines;
+mod pieces;
 mod reading;
+mod soak;
 mod text;
 mod top;
 mod words;

@@ -5,17 +5,20 @@ ghost use Rattle.outside.specs.Written.{AppendsPrefix};
 ghost use Rattle.program_model.specs.Words.{command_of, texts};
 ghost use Rattle.program_model.specs.Answer.{accepted_status, accepted_text, case_answer, defined, printed, Reads, TakesMemory};
 ghost use Rattle.ucos_top.specs.Answers.{IsToRun};
-ghost use Rattle.program_model.specs.Case.{case_of};
+ghost use Rattle.program_model.specs.Case.{Accepts, case_of};
+ghost use Rattle.program_model.specs.Generated.{generated};
 ghost use Rattle.program_model.specs.Refusals.{refusal_line};
-ghost use Rattle.program_model.specs.Limits.{IsCaseWithinLimit, longest_input, most_task_steps};
-ghost use Rattle.ucos_top.specs.Told.{ReadWhole, AppendsUnlessRose, OrNoMemory, IsWhole, IsSilent, IsRun, IsAfterReading, IsEarly, IsBoth, WritesOneHistory};
+ghost use Rattle.program_model.specs.Limits.{IsCaseWithinLimit, longest_input, most_lines, most_task_steps};
+ghost use Rattle.ucos_top.specs.Told.{ReadWhole, AppendsUnlessRose, OrNoMemory, IsWhole, IsSilent, IsRun, IsAfterReading, IsEarly, IsBoth, WritesOneHistory, IsDisassembly, WritesItsCase};
 
 use crate::both::compare;
 use crate::case::read_case;
 use crate::causes::{CaseError, refusal_line};
+use crate::disassembly::disassemble;
 use crate::listing::write_listing;
 use crate::machines::load;
 use crate::reading::{InputError, read_input};
+use crate::soak::{generated_text, summarize};
 use crate::text::write_run;
 use crate::words::command_of;
 use app_image::{Image, write_image};
@@ -24,7 +27,6 @@ use inject_list::InjectList;
 use kern_base::Method;
 use outside::{Failed, Sink, Source};
 use program_model::{CaseCause, CaseCommand, Command, Status};
-use rv32_listing::write_listing as write_disassembly;
 use std::alloc::Global;
 
 /// Does what the words ask for, and answers how it ended. The defined answer of the words is known
@@ -55,6 +57,10 @@ pub fn ucos_main<S: Source, K: Sink>(
 
     // The two posting methods: where both runs end with Done, the two task histories that were written are equal.
     ensures one_history { result ≡ Status.Done → IsBoth (command_of (texts words.now)) → WritesOneHistory (K.held sink.old) (K.held sink.new) }
+
+    // The listing that assembles back: what was written is a case with the image of the case that was read.
+    ensures its_case { result ≡ Status.Done → IsDisassembly (command_of (texts words.now)) → IfSome (S.left source.old)
+        (λ input. WritesItsCase (case_of input) (K.held sink.old) (K.held sink.new)) }
 
     // A refused case: its line is written, or a prefix of it where the sink's count rose.
     ensures refused { result ≡ Status.Refused → IfSome (defined (texts words.now) (S.left source.old)) (λ a. a.status ≡ Status.Refused) }
@@ -90,6 +96,7 @@ pub fn ucos_main<S: Source, K: Sink>(
     match command_of(words) {
         None => Status::Usage,
         Some(Command::Generate(seed, size)) => ending(generate(seed, size, sink)),
+        Some(Command::Soak(seed, size)) => soak(alloc, seed, size, sink),
         Some(Command::OnCase(command)) => match read_input(alloc, source) {
             Ok(input) => obey(alloc, command, input.as_slice(), sink),
             Err(InputError::Fault) => Status::ReadFault,
@@ -114,6 +121,7 @@ fn obey<K: Sink>(alloc: Global, command: CaseCommand, input: &[u8], sink: &mut K
     ensures whole { IsRun result → result ≡ (case_answer command (case_of input.now)).status }
     ensures whole_text { IsRun result → Appends (K.held sink.old) (K.held sink.new) (case_answer command (case_of input.now)).text }
     ensures one_history { result ≡ Status.Done → IsBoth (Some (Command.OnCase command)) → WritesOneHistory (K.held sink.old) (K.held sink.new) }
+    ensures its_case { result ≡ Status.Done → IsDisassembly (Some (Command.OnCase command)) → WritesItsCase (case_of input.now) (K.held sink.old) (K.held sink.new) }
     ensures complete { DidNotRise (K.faults sink.old) (K.faults sink.new) → OrNoMemory result (case_answer command (case_of input.now)).status }
     ensures early { IsEarly (case_answer command (case_of input.now)).status → OrNoMemory result (case_answer command (case_of input.now)).status }
 {
@@ -121,6 +129,28 @@ fn obey<K: Sink>(alloc: Global, command: CaseCommand, input: &[u8], sink: &mut K
         Ok((image, list)) => run(alloc, command, &image, &list, sink),
         Err(CaseError::NoMemory) => Status::NoMemory,
         Err(CaseError::At(line, cause)) => refuse(line, cause, sink),
+    }
+}
+
+// Makes a generated case in memory, and does what is asked of it.
+fn soak<K: Sink>(alloc: Global, seed: u64, size: u32, sink: &mut K) -> Status
+    requires size { size ≤ most_lines }
+    ensures own { (result ≢ Status.Usage) × (result ≢ Status.ReadFault) × (result ≢ Status.TooLong) }
+    ensures sink_count { K.faults sink.old ≤ K.faults sink.new }
+    ensures no_memory { result ≡ Status.NoMemory → sink.new ≡ sink.old }
+    ensures refused { result ≡ Status.Refused → (case_answer (CaseCommand.Summary seed size) (case_of (generated seed size))).status ≡ Status.Refused }
+    ensures refused_text { result ≡ Status.Refused → AppendsUnlessRose (K.held sink.old) (K.held sink.new) (K.faults sink.old) (K.faults sink.new) (case_answer (CaseCommand.Summary seed size) (case_of (generated seed size))).text }
+    ensures write_fault { result ≡ Status.WriteFault → Rose (K.faults sink.old) (K.faults sink.new) }
+    ensures write_fault_run { result ≡ Status.WriteFault → IsRun (case_answer (CaseCommand.Summary seed size) (case_of (generated seed size))).status }
+    ensures write_fault_text { result ≡ Status.WriteFault → AppendsPrefix (K.held sink.old) (K.held sink.new) (case_answer (CaseCommand.Summary seed size) (case_of (generated seed size))).text }
+    ensures whole { IsRun result → result ≡ (case_answer (CaseCommand.Summary seed size) (case_of (generated seed size))).status }
+    ensures whole_text { IsRun result → Appends (K.held sink.old) (K.held sink.new) (case_answer (CaseCommand.Summary seed size) (case_of (generated seed size))).text }
+    ensures complete { DidNotRise (K.faults sink.old) (K.faults sink.new) → OrNoMemory result (case_answer (CaseCommand.Summary seed size) (case_of (generated seed size))).status }
+    ensures early { IsEarly (case_answer (CaseCommand.Summary seed size) (case_of (generated seed size))).status → OrNoMemory result (case_answer (CaseCommand.Summary seed size) (case_of (generated seed size))).status }
+{
+    match generated_text(alloc, seed, size) {
+        Ok(text) => obey(alloc, CaseCommand::Summary(seed, size), text.bytes(), sink),
+        Err(_) => Status::NoMemory,
     }
 }
 
@@ -154,18 +184,20 @@ fn run<K: Sink>(
     ensures whole_text { result ≡ Status.Done → Appends (K.held sink.old) (K.held sink.new) (accepted_text command image.now list.now) }
     ensures broken_text { result ≡ Status.Broken → Appends (K.held sink.old) (K.held sink.new) (accepted_text command image.now list.now) }
     ensures one_history { result ≡ Status.Done → IsBoth (Some (Command.OnCase command)) → WritesOneHistory (K.held sink.old) (K.held sink.new) }
+    ensures its_case { result ≡ Status.Done → IsDisassembly (Some (Command.OnCase command)) → WritesItsCase (Accepts image.now list.now) (K.held sink.old) (K.held sink.new) }
 {
     match command {
         CaseCommand::Run(method, count) => run_case(alloc, image, list, method, count, sink),
         CaseCommand::Both(count) => compare(alloc, image, list, count, sink),
         CaseCommand::Listing => ending(write_listing(image, sink)),
-        CaseCommand::Disassembly => ending(write_disassembly(image, sink)),
+        CaseCommand::Disassembly => disassemble(image, sink),
         CaseCommand::Binary => ending(write_image(image, sink)),
+        CaseCommand::Summary(seed, size) => summarize(alloc, image, list, seed, size, sink),
     }
 }
 
 // How a command ends that wrote, and takes no memory.
-fn ending(written: Result<(), Failed>) -> Status
+pub fn ending(written: Result<(), Failed>) -> Status
     ensures ends { MatchResult written (λ _. result ≡ Status.Done) (λ _. result ≡ Status.WriteFault) }
     ensures own { (result ≡ Status.WriteFault) ⊎ (result ≡ Status.Done) }
 {

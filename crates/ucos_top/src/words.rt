@@ -7,7 +7,7 @@ use kern_base::Method;
 use program_model::{CaseCommand, Command};
 
 /// The command that the words are, if they are one: `run direct N`, `run deferred N`, `both N`, `list`,
-/// `dis`, `image` or `gen SEED SIZE`.
+/// `dis`, `image`, `gen SEED SIZE` or `soak SEED SIZE`.
 pub fn command_of(words: &[String]) -> Option<Command>
     ensures value { result ≡ command_of (texts words.now) }
     ensures within { IfSome result IsWithinLimit }
@@ -28,6 +28,10 @@ pub fn command_of(words: &[String]) -> Option<Command>
         [first, seed, size] if first.as_str() == "gen" => {
             let seed = seed_of(seed.as_bytes())?;
             Some(Command::Generate(seed, size_of(size.as_bytes())?))
+        }
+        [first, seed, size] if first.as_str() == "soak" => {
+            let seed = seed_of(seed.as_bytes())?;
+            Some(Command::Soak(seed, size_of(size.as_bytes())?))
         }
         _ => None,
     }

@@ -57,3 +57,46 @@ fn a_failing_write_leaves_whole_lines_and_a_part(rt: HostRuntime) -> Result<(), 
     }
     Ok(())
 }
+
+// A line of a text, by its number from 0.
+fn line_of(text: &[u8], number: usize) -> Option<&[u8]> {
+    text.split(|byte| *byte == b'\n').nth(number)
+}
+
+// The part of a line behind its raw steps.
+fn counts_in(line: &[u8]) -> Option<&[u8]> {
+    let place = line
+        .windows(7)
+        .position(|part| part == b" calls ".as_slice())?;
+    line.get(place..)
+}
+
+// Whether a summary begins with this line, and tells as many calls, switches and lines of both runs, and that all premises
+// are held.
+fn is_even(text: &[u8], first: &[u8]) -> bool {
+    let direct = line_of(text, 1).unwrap_or(&[]);
+    let deferred = line_of(text, 2).unwrap_or(&[]);
+    line_of(text, 0) == Some(first)
+        && direct.starts_with(b"direct raw ")
+        && deferred.starts_with(b"deferred raw ")
+        && counts_in(direct) == counts_in(deferred)
+        && text.ends_with(b"\nP1 held\nP2 held\nP3 held\nP4 held\n")
+}
+
+// Nothing is read: the first read would fail.
+#[test]
+fn both_runs_of_a_generated_case_are_counted(rt: HostRuntime) -> Result<(), Fail> {
+    for (words, first) in [
+        ("soak 1 100", "soak 1 100 n 4100"),
+        ("soak 0007 0001", "soak 7 1 n 140"),
+    ] {
+        let given = Given {
+            read_fails: 1,
+            ..Given::new(words, b"")
+        };
+        let (status, held) = answer(rt.alloc(), &given)?;
+        assert_eq!(rt; status, Status::Done, "{words}");
+        assert!(rt; is_even(held.as_slice(), first.as_bytes()), "{words}");
+    }
+    Ok(())
+}
