@@ -12,7 +12,8 @@ ghost use Rattle.program_model.specs.Limits.{most_task_steps};
 ghost use Rattle.program_model.specs.Summary.{counts_of, is_call};
 ghost use Rattle.ucos_top.specs.Counted.{IsCountOf, IsFew, most_events};
 
-use machine_core::{Event, Machine, What};
+use crate::machines::ProgramMachine;
+use machine_core::{Event, What};
 use method_premises::Premises;
 use std::marker::Model;
 
@@ -111,7 +112,7 @@ pub struct Counted {
 }
 
 /// Counts the run of a machine at its start with some injections, to so many task steps. It takes no memory.
-pub fn count_run(mut machine: Machine, count: u32) -> Counted
+pub fn count_run(mut machine: ProgramMachine, count: u32) -> Counted
     requires within { machine.state.t ≤ count }
     requires count { count ≤ most_task_steps }
     requires few { events_left count machine.state ≤ most_events }

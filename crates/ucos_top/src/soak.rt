@@ -20,12 +20,12 @@ ghost use Rattle.ucos_top.specs.Told.{IsRun};
 
 use crate::both::write_premises;
 use crate::counting::{Counted, count_run};
+use crate::machines::load;
 use crate::pieces::{Line, push_bytes, push_count};
 use app_image::Image;
 use case_gen::generate;
 use inject_list::InjectList;
 use kern_base::Method;
-use machine_core::Machine;
 use outside::{Failed, MemSink, NoMemory, Sink};
 use program_model::Status;
 use std::alloc::Global;
@@ -154,10 +154,10 @@ pub fn summarize<K: Sink>(
 {
     let count = steps_for(size);
     events_are_few(image, list, count);
-    let Ok(direct) = Machine::load(alloc, image, list, Method::Direct) else {
+    let Ok(direct) = load(alloc, image, list, Method::Direct) else {
         return Status::NoMemory;
     };
-    let Ok(deferred) = Machine::load(alloc, image, list, Method::Deferred) else {
+    let Ok(deferred) = load(alloc, image, list, Method::Deferred) else {
         return Status::NoMemory;
     };
     let direct = count_run(direct, count);
