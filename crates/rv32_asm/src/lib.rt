@@ -16,9 +16,14 @@ mod places;
 mod placing;
 mod refusal;
 mod registers;
+mod spellings;
 mod statements;
 mod tables;
 mod words;
 
 pub use assembling::assemble;
 pub use causes::{AsmCause, AsmError};
+pub use mnemonics::{
+    AloneOp, BranchOp, ImmediateOp, RegisterOp, ShiftOp, StoreOp, UpperOp, jump_mnemonic,
+};
+pub use words::settings;

@@ -3,8 +3,9 @@
 ghost use Rattle.std.specs.Prelude.{◌≡◌};
 ghost use Rattle.rv32_asm.specs.Tables.{entry};
 ghost use Rattle.rv32_asm.specs.Initials.{rows_by};
-ghost use Rattle.rv32_asm.specs.Mnemonics.{head_of, heads};
+ghost use Rattle.rv32_asm.specs.Mnemonics.{alone_mnemonic, branch_mnemonic, head_of, heads, immediate_mnemonic, jump_mnemonic, register_mnemonic, shift_mnemonic, store_mnemonic, upper_mnemonic};
 
+use crate::spellings;
 use crate::tables::entry;
 use kern_base::Kind;
 
@@ -31,6 +32,34 @@ pub enum RegisterOp {
     Remu,
 }
 
+impl RegisterOp {
+    /// The mnemonic.
+    pub fn mnemonic(self) -> &'static [u8]
+        ensures { result.now ≡ register_mnemonic self }
+    {
+        match self {
+            RegisterOp::Add => spellings::ADD,
+            RegisterOp::Sub => spellings::SUB,
+            RegisterOp::Sll => spellings::SLL,
+            RegisterOp::Slt => spellings::SLT,
+            RegisterOp::Sltu => spellings::SLTU,
+            RegisterOp::Xor => spellings::XOR,
+            RegisterOp::Srl => spellings::SRL,
+            RegisterOp::Sra => spellings::SRA,
+            RegisterOp::Or => spellings::OR,
+            RegisterOp::And => spellings::AND,
+            RegisterOp::Mul => spellings::MUL,
+            RegisterOp::Mulh => spellings::MULH,
+            RegisterOp::Mulhsu => spellings::MULHSU,
+            RegisterOp::Mulhu => spellings::MULHU,
+            RegisterOp::Div => spellings::DIV,
+            RegisterOp::Divu => spellings::DIVU,
+            RegisterOp::Rem => spellings::REM,
+            RegisterOp::Remu => spellings::REMU,
+        }
+    }
+}
+
 /// An instruction on two registers and an immediate (format I).
 #[derive(Clone, Copy)]
 pub enum ImmediateOp {
@@ -48,6 +77,28 @@ pub enum ImmediateOp {
     Lhu,
 }
 
+impl ImmediateOp {
+    /// The mnemonic.
+    pub fn mnemonic(self) -> &'static [u8]
+        ensures { result.now ≡ immediate_mnemonic self }
+    {
+        match self {
+            ImmediateOp::Addi => spellings::ADDI,
+            ImmediateOp::Slti => spellings::SLTI,
+            ImmediateOp::Sltiu => spellings::SLTIU,
+            ImmediateOp::Xori => spellings::XORI,
+            ImmediateOp::Ori => spellings::ORI,
+            ImmediateOp::Andi => spellings::ANDI,
+            ImmediateOp::Jalr => spellings::JALR,
+            ImmediateOp::Lb => spellings::LB,
+            ImmediateOp::Lh => spellings::LH,
+            ImmediateOp::Lw => spellings::LW,
+            ImmediateOp::Lbu => spellings::LBU,
+            ImmediateOp::Lhu => spellings::LHU,
+        }
+    }
+}
+
 /// A shift by an immediate.
 #[derive(Clone, Copy)]
 pub enum ShiftOp {
@@ -56,12 +107,38 @@ pub enum ShiftOp {
     Srai,
 }
 
+impl ShiftOp {
+    /// The mnemonic.
+    pub fn mnemonic(self) -> &'static [u8]
+        ensures { result.now ≡ shift_mnemonic self }
+    {
+        match self {
+            ShiftOp::Slli => spellings::SLLI,
+            ShiftOp::Srli => spellings::SRLI,
+            ShiftOp::Srai => spellings::SRAI,
+        }
+    }
+}
+
 /// A store (format S).
 #[derive(Clone, Copy)]
 pub enum StoreOp {
     Sb,
     Sh,
     Sw,
+}
+
+impl StoreOp {
+    /// The mnemonic.
+    pub fn mnemonic(self) -> &'static [u8]
+        ensures { result.now ≡ store_mnemonic self }
+    {
+        match self {
+            StoreOp::Sb => spellings::SB,
+            StoreOp::Sh => spellings::SH,
+            StoreOp::Sw => spellings::SW,
+        }
+    }
 }
 
 /// A conditional branch (format B).
@@ -75,11 +152,39 @@ pub enum BranchOp {
     Bgeu,
 }
 
+impl BranchOp {
+    /// The mnemonic.
+    pub fn mnemonic(self) -> &'static [u8]
+        ensures { result.now ≡ branch_mnemonic self }
+    {
+        match self {
+            BranchOp::Beq => spellings::BEQ,
+            BranchOp::Bne => spellings::BNE,
+            BranchOp::Blt => spellings::BLT,
+            BranchOp::Bge => spellings::BGE,
+            BranchOp::Bltu => spellings::BLTU,
+            BranchOp::Bgeu => spellings::BGEU,
+        }
+    }
+}
+
 /// An instruction on a register and the upper 20 bits (format U).
 #[derive(Clone, Copy)]
 pub enum UpperOp {
     Lui,
     Auipc,
+}
+
+impl UpperOp {
+    /// The mnemonic.
+    pub fn mnemonic(self) -> &'static [u8]
+        ensures { result.now ≡ upper_mnemonic self }
+    {
+        match self {
+            UpperOp::Lui => spellings::LUI,
+            UpperOp::Auipc => spellings::AUIPC,
+        }
+    }
 }
 
 /// An instruction without operands.
@@ -88,6 +193,19 @@ pub enum AloneOp {
     Fence,
     Ecall,
     Ebreak,
+}
+
+impl AloneOp {
+    /// The mnemonic.
+    pub fn mnemonic(self) -> &'static [u8]
+        ensures { result.now ≡ alone_mnemonic self }
+    {
+        match self {
+            AloneOp::Fence => spellings::FENCE,
+            AloneOp::Ecall => spellings::ECALL,
+            AloneOp::Ebreak => spellings::EBREAK,
+        }
+    }
 }
 
 /// An instruction that stands for one or two others.
@@ -155,6 +273,13 @@ pub enum Head {
     Inject,
 }
 
+/// The mnemonic of the jump to a label.
+pub fn jump_mnemonic() -> &'static [u8]
+    ensures { result.now ≡ jump_mnemonic }
+{
+    spellings::JAL
+}
+
 // The table of what a line may begin with, in parts by the first byte.
 
 static DIRECTIVES: [(&[u8], Head); 14] = [
@@ -175,20 +300,20 @@ static DIRECTIVES: [(&[u8], Head); 14] = [
 ];
 
 static A_HEADS: [(&[u8], Head); 5] = [
-    (b"add", Head::Registers(RegisterOp::Add)),
-    (b"and", Head::Registers(RegisterOp::And)),
-    (b"addi", Head::Immediate(ImmediateOp::Addi)),
-    (b"andi", Head::Immediate(ImmediateOp::Andi)),
-    (b"auipc", Head::Upper(UpperOp::Auipc)),
+    (spellings::ADD, Head::Registers(RegisterOp::Add)),
+    (spellings::AND, Head::Registers(RegisterOp::And)),
+    (spellings::ADDI, Head::Immediate(ImmediateOp::Addi)),
+    (spellings::ANDI, Head::Immediate(ImmediateOp::Andi)),
+    (spellings::AUIPC, Head::Upper(UpperOp::Auipc)),
 ];
 
 static B_HEADS: [(&[u8], Head); 8] = [
-    (b"beq", Head::Branch(BranchOp::Beq)),
-    (b"bne", Head::Branch(BranchOp::Bne)),
-    (b"blt", Head::Branch(BranchOp::Blt)),
-    (b"bge", Head::Branch(BranchOp::Bge)),
-    (b"bltu", Head::Branch(BranchOp::Bltu)),
-    (b"bgeu", Head::Branch(BranchOp::Bgeu)),
+    (spellings::BEQ, Head::Branch(BranchOp::Beq)),
+    (spellings::BNE, Head::Branch(BranchOp::Bne)),
+    (spellings::BLT, Head::Branch(BranchOp::Blt)),
+    (spellings::BGE, Head::Branch(BranchOp::Bge)),
+    (spellings::BLTU, Head::Branch(BranchOp::Bltu)),
+    (spellings::BGEU, Head::Branch(BranchOp::Bgeu)),
     (b"beqz", Head::Pseudo(Pseudo::Beqz)),
     (b"bnez", Head::Pseudo(Pseudo::Bnez)),
 ];
@@ -196,40 +321,40 @@ static B_HEADS: [(&[u8], Head); 8] = [
 static C_HEADS: [(&[u8], Head); 1] = [(b"call", Head::Pseudo(Pseudo::Call))];
 
 static D_HEADS: [(&[u8], Head); 2] = [
-    (b"div", Head::Registers(RegisterOp::Div)),
-    (b"divu", Head::Registers(RegisterOp::Divu)),
+    (spellings::DIV, Head::Registers(RegisterOp::Div)),
+    (spellings::DIVU, Head::Registers(RegisterOp::Divu)),
 ];
 
 static E_HEADS: [(&[u8], Head); 2] = [
-    (b"ecall", Head::Alone(AloneOp::Ecall)),
-    (b"ebreak", Head::Alone(AloneOp::Ebreak)),
+    (spellings::ECALL, Head::Alone(AloneOp::Ecall)),
+    (spellings::EBREAK, Head::Alone(AloneOp::Ebreak)),
 ];
 
-static F_HEADS: [(&[u8], Head); 1] = [(b"fence", Head::Alone(AloneOp::Fence))];
+static F_HEADS: [(&[u8], Head); 1] = [(spellings::FENCE, Head::Alone(AloneOp::Fence))];
 
 static J_HEADS: [(&[u8], Head); 4] = [
-    (b"jalr", Head::Load(ImmediateOp::Jalr)),
-    (b"jal", Head::Jump),
+    (spellings::JALR, Head::Load(ImmediateOp::Jalr)),
+    (spellings::JAL, Head::Jump),
     (b"j", Head::Pseudo(Pseudo::J)),
     (b"jr", Head::Pseudo(Pseudo::Jr)),
 ];
 
 static L_HEADS: [(&[u8], Head); 8] = [
-    (b"lb", Head::Load(ImmediateOp::Lb)),
-    (b"lh", Head::Load(ImmediateOp::Lh)),
-    (b"lw", Head::Load(ImmediateOp::Lw)),
-    (b"lbu", Head::Load(ImmediateOp::Lbu)),
-    (b"lhu", Head::Load(ImmediateOp::Lhu)),
-    (b"lui", Head::Upper(UpperOp::Lui)),
+    (spellings::LB, Head::Load(ImmediateOp::Lb)),
+    (spellings::LH, Head::Load(ImmediateOp::Lh)),
+    (spellings::LW, Head::Load(ImmediateOp::Lw)),
+    (spellings::LBU, Head::Load(ImmediateOp::Lbu)),
+    (spellings::LHU, Head::Load(ImmediateOp::Lhu)),
+    (spellings::LUI, Head::Upper(UpperOp::Lui)),
     (b"li", Head::Pseudo(Pseudo::Li)),
     (b"la", Head::Pseudo(Pseudo::La)),
 ];
 
 static M_HEADS: [(&[u8], Head); 5] = [
-    (b"mul", Head::Registers(RegisterOp::Mul)),
-    (b"mulh", Head::Registers(RegisterOp::Mulh)),
-    (b"mulhsu", Head::Registers(RegisterOp::Mulhsu)),
-    (b"mulhu", Head::Registers(RegisterOp::Mulhu)),
+    (spellings::MUL, Head::Registers(RegisterOp::Mul)),
+    (spellings::MULH, Head::Registers(RegisterOp::Mulh)),
+    (spellings::MULHSU, Head::Registers(RegisterOp::Mulhsu)),
+    (spellings::MULHU, Head::Registers(RegisterOp::Mulhu)),
     (b"mv", Head::Pseudo(Pseudo::Mv)),
 ];
 
@@ -240,39 +365,39 @@ static N_HEADS: [(&[u8], Head); 3] = [
 ];
 
 static O_HEADS: [(&[u8], Head); 3] = [
-    (b"or", Head::Registers(RegisterOp::Or)),
-    (b"ori", Head::Immediate(ImmediateOp::Ori)),
+    (spellings::OR, Head::Registers(RegisterOp::Or)),
+    (spellings::ORI, Head::Immediate(ImmediateOp::Ori)),
     (b"os", Head::Pseudo(Pseudo::Os)),
 ];
 
 static R_HEADS: [(&[u8], Head); 3] = [
-    (b"rem", Head::Registers(RegisterOp::Rem)),
-    (b"remu", Head::Registers(RegisterOp::Remu)),
+    (spellings::REM, Head::Registers(RegisterOp::Rem)),
+    (spellings::REMU, Head::Registers(RegisterOp::Remu)),
     (b"ret", Head::Pseudo(Pseudo::Ret)),
 ];
 
 static S_HEADS: [(&[u8], Head); 16] = [
-    (b"sub", Head::Registers(RegisterOp::Sub)),
-    (b"sll", Head::Registers(RegisterOp::Sll)),
-    (b"slt", Head::Registers(RegisterOp::Slt)),
-    (b"sltu", Head::Registers(RegisterOp::Sltu)),
-    (b"srl", Head::Registers(RegisterOp::Srl)),
-    (b"sra", Head::Registers(RegisterOp::Sra)),
-    (b"slti", Head::Immediate(ImmediateOp::Slti)),
-    (b"sltiu", Head::Immediate(ImmediateOp::Sltiu)),
-    (b"slli", Head::Shift(ShiftOp::Slli)),
-    (b"srli", Head::Shift(ShiftOp::Srli)),
-    (b"srai", Head::Shift(ShiftOp::Srai)),
-    (b"sb", Head::Store(StoreOp::Sb)),
-    (b"sh", Head::Store(StoreOp::Sh)),
-    (b"sw", Head::Store(StoreOp::Sw)),
+    (spellings::SUB, Head::Registers(RegisterOp::Sub)),
+    (spellings::SLL, Head::Registers(RegisterOp::Sll)),
+    (spellings::SLT, Head::Registers(RegisterOp::Slt)),
+    (spellings::SLTU, Head::Registers(RegisterOp::Sltu)),
+    (spellings::SRL, Head::Registers(RegisterOp::Srl)),
+    (spellings::SRA, Head::Registers(RegisterOp::Sra)),
+    (spellings::SLTI, Head::Immediate(ImmediateOp::Slti)),
+    (spellings::SLTIU, Head::Immediate(ImmediateOp::Sltiu)),
+    (spellings::SLLI, Head::Shift(ShiftOp::Slli)),
+    (spellings::SRLI, Head::Shift(ShiftOp::Srli)),
+    (spellings::SRAI, Head::Shift(ShiftOp::Srai)),
+    (spellings::SB, Head::Store(StoreOp::Sb)),
+    (spellings::SH, Head::Store(StoreOp::Sh)),
+    (spellings::SW, Head::Store(StoreOp::Sw)),
     (b"seqz", Head::Pseudo(Pseudo::Seqz)),
     (b"snez", Head::Pseudo(Pseudo::Snez)),
 ];
 
 static X_HEADS: [(&[u8], Head); 2] = [
-    (b"xor", Head::Registers(RegisterOp::Xor)),
-    (b"xori", Head::Immediate(ImmediateOp::Xori)),
+    (spellings::XOR, Head::Registers(RegisterOp::Xor)),
+    (spellings::XORI, Head::Immediate(ImmediateOp::Xori)),
 ];
 
 // The entry of a name that begins with a byte.

@@ -1,7 +1,8 @@
 // The words that have a meaning from the start: the names of the services and of the settings.
 
-ghost use Rattle.std.specs.Prelude.{◌≡◌, ◌≤◌};
-ghost use Rattle.rv32_asm.specs.Words.{key_of, service_number, service_numbered};
+ghost use Rattle.std.specs.Prelude.{◌≡◌, ◌≤◌, map};
+ghost use Rattle.rv32_asm.specs.Tables.{row_of};
+ghost use Rattle.rv32_asm.specs.Words.{key_of, keys, service_number, service_numbered};
 
 use crate::tables::entry;
 use app_image::ConfigKey;
@@ -19,6 +20,13 @@ static KEYS: [(&[u8], ConfigKey); 10] = [
     (b"tmr_sp", ConfigKey::TmrSp),
     (b"insert", ConfigKey::Insert),
 ];
+
+/// The settings by name, in the order of their places.
+pub fn settings() -> &'static [(&'static [u8], ConfigKey)]
+    ensures { map row_of result.now ≡ keys }
+{
+    &KEYS
+}
 
 /// The setting that has this name.
 pub fn key_of(name: &[u8]) -> Option<ConfigKey>
