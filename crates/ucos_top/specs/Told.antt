@@ -6,12 +6,18 @@ use Rattle.outside.specs.Written.{AppendsPrefix}
 use Rattle.app_image.specs.Image.{ImageRecord}
 use Rattle.app_image.specs.RoundTrip.{unlined}
 use Rattle.inject_list.specs.Lists.{ListRecord, no_injections}
-use Rattle.program_model.specs.Case.{Case, Accepts, case_of}
 use Rattle.program_model.specs.declared.statuses.Status.{Status}
 use Rattle.program_model.specs.declared.statuses.Status.TheVariants as status
 use Rattle.program_model.specs.declared.commands.Command.{Command}
-use Rattle.program_model.specs.declared.commands.Command.TheVariants.{OnCase}
-use Rattle.program_model.specs.declared.commands.CaseCommand.TheVariants.{Both, Disassembly}
+use Rattle.program_model.specs.declared.commands.Command.TheVariants.{OnCase, Soak}
+use Rattle.program_model.specs.declared.commands.CaseCommand.{CaseCommand}
+use Rattle.program_model.specs.declared.commands.CaseCommand.TheVariants.{Both, Summary, Disassembly}
+use Rattle.kern_base.specs.declared.kinds.Method.TheVariants.{Direct, Deferred}
+use Rattle.inject_list.specs.Lists.{ListRecord}
+use Rattle.machine_model.specs.Run.{history}
+use Rattle.program_model.specs.Both.{run_of}
+use Rattle.program_model.specs.Case.{Case, Accepts, Refuses, case_of}
+use Rattle.program_model.specs.Generated.{generated, steps_for}
 
 -- where the source told its bytes, all of them are read
 abbrev pub ReadWhole : Option (List ℕ) → Option (List ℕ) → Type 0
@@ -89,3 +95,18 @@ pub record WritesOneHistory (old new : Option (List ℕ)) : Type 0 where
   pub history : List ℕ
   pub rest : List ℕ
   pub written : Appends old new (codes "method direct\n" ++ (history ++ (codes "method deferred\n" ++ (history ++ (codes "P1 held\nP2 held\nP3 held\nP4 held\n" ++ rest)))))
+
+-- of a summary: the two runs that it sums up have one task history
+abbrev pub SumsOneHistory : CaseCommand → ImageRecord → ListRecord → Type 0
+SumsOneHistory (Summary seed size) image l = history image (run_of Deferred image l (steps_for size)) ≡ history image (run_of Direct image l (steps_for size))
+SumsOneHistory command image l = Unit {0}
+
+-- the case is accepted, and its two runs have one task history
+abbrev pub HasOneHistory : CaseCommand → Case → Type 0
+HasOneHistory command (Accepts image l) = SumsOneHistory command image l
+HasOneHistory command (Refuses line cause) = ⊥
+
+-- of the generated case that the command sums up, if it does
+abbrev pub SoaksOneHistory : Option Command → Type 0
+SoaksOneHistory (Some (Soak seed size)) = HasOneHistory (Summary seed size) (case_of (generated seed size))
+SoaksOneHistory _ = Unit {0}

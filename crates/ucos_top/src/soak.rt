@@ -16,9 +16,9 @@ ghost use Rattle.program_model.specs.Listing.{spaced};
 ghost use Rattle.program_model.specs.Summary.{counted_line, first_line, summary};
 ghost use Rattle.ucos_top.specs.Answers.{IsToRun};
 ghost use Rattle.ucos_top.specs.Counted.{IsCountOf, IsFew, most_events};
-ghost use Rattle.ucos_top.specs.Told.{IsRun};
+ghost use Rattle.ucos_top.specs.Told.{IsRun, SumsOneHistory};
 
-use crate::both::write_premises;
+use crate::both::{histories_agree, write_premises};
 use crate::counting::{Counted, count_run};
 use crate::machines::load;
 use crate::pieces::{Line, push_bytes, push_count};
@@ -27,7 +27,7 @@ use case_gen::generate;
 use inject_list::InjectList;
 use kern_base::Method;
 use outside::{Failed, MemSink, NoMemory, Sink};
-use program_model::Status;
+use program_model::{CaseCommand, Status};
 use std::alloc::Global;
 
 /// The text of a generated case, in memory.
@@ -151,9 +151,11 @@ pub fn summarize<K: Sink>(
     ensures write_fault_text { result ≡ Status.WriteFault → AppendsPrefix (K.held sink.old) (K.held sink.new) (summed seed size image.now list.now) }
     ensures whole_text { result ≡ Status.Done → Appends (K.held sink.old) (K.held sink.new) (summed seed size image.now list.now) }
     ensures broken_text { result ≡ Status.Broken → Appends (K.held sink.old) (K.held sink.new) (summed seed size image.now list.now) }
+    ensures one_history { result ≡ Status.Done → SumsOneHistory (CaseCommand.Summary seed size) image.now list.now }
 {
     let count = steps_for(size);
     events_are_few(image, list, count);
+    histories_agree(image, list, count);
     let Ok(direct) = load(alloc, image, list, Method::Direct) else {
         return Status::NoMemory;
     };

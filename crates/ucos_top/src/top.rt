@@ -9,7 +9,7 @@ ghost use Rattle.program_model.specs.Case.{Accepts, case_of};
 ghost use Rattle.program_model.specs.Generated.{generated};
 ghost use Rattle.program_model.specs.Refusals.{refusal_line};
 ghost use Rattle.program_model.specs.Limits.{IsCaseWithinLimit, longest_input, most_lines, most_task_steps};
-ghost use Rattle.ucos_top.specs.Told.{ReadWhole, AppendsUnlessRose, OrNoMemory, IsWhole, IsSilent, IsRun, IsAfterReading, IsEarly, IsBoth, WritesOneHistory, IsDisassembly, WritesItsCase};
+ghost use Rattle.ucos_top.specs.Told.{ReadWhole, AppendsUnlessRose, OrNoMemory, IsWhole, IsSilent, IsRun, IsAfterReading, IsEarly, IsBoth, WritesOneHistory, IsDisassembly, WritesItsCase, SumsOneHistory, HasOneHistory, SoaksOneHistory};
 
 use crate::both::compare;
 use crate::case::read_case;
@@ -61,6 +61,9 @@ pub fn ucos_main<S: Source, K: Sink>(
     // The listing that assembles back: what was written is a case with the image of the case that was read.
     ensures its_case { result ≡ Status.Done → IsDisassembly (command_of (texts words.now)) → IfSome (S.left source.old)
         (λ input. WritesItsCase (case_of input) (K.held sink.old) (K.held sink.new)) }
+
+    // And where a summary ends with Done, the two task histories that were counted are equal.
+    ensures one_summary { result ≡ Status.Done → SoaksOneHistory (command_of (texts words.now)) }
 
     // A refused case: its line is written, or a prefix of it where the sink's count rose.
     ensures refused { result ≡ Status.Refused → IfSome (defined (texts words.now) (S.left source.old)) (λ a. a.status ≡ Status.Refused) }
@@ -124,6 +127,7 @@ fn obey<K: Sink>(alloc: Global, command: CaseCommand, input: &[u8], sink: &mut K
     ensures its_case { result ≡ Status.Done → IsDisassembly (Some (Command.OnCase command)) → WritesItsCase (case_of input.now) (K.held sink.old) (K.held sink.new) }
     ensures complete { DidNotRise (K.faults sink.old) (K.faults sink.new) → OrNoMemory result (case_answer command (case_of input.now)).status }
     ensures early { IsEarly (case_answer command (case_of input.now)).status → OrNoMemory result (case_answer command (case_of input.now)).status }
+    ensures one_summary { result ≡ Status.Done → HasOneHistory command (case_of input.now) }
 {
     match read_case(alloc, input) {
         Ok((image, list)) => run(alloc, command, &image, &list, sink),
@@ -147,6 +151,7 @@ fn soak<K: Sink>(alloc: Global, seed: u64, size: u32, sink: &mut K) -> Status
     ensures whole_text { IsRun result → Appends (K.held sink.old) (K.held sink.new) (case_answer (CaseCommand.Summary seed size) (case_of (generated seed size))).text }
     ensures complete { DidNotRise (K.faults sink.old) (K.faults sink.new) → OrNoMemory result (case_answer (CaseCommand.Summary seed size) (case_of (generated seed size))).status }
     ensures early { IsEarly (case_answer (CaseCommand.Summary seed size) (case_of (generated seed size))).status → OrNoMemory result (case_answer (CaseCommand.Summary seed size) (case_of (generated seed size))).status }
+    ensures one_summary { result ≡ Status.Done → HasOneHistory (CaseCommand.Summary seed size) (case_of (generated seed size)) }
 {
     match generated_text(alloc, seed, size) {
         Ok(text) => obey(alloc, CaseCommand::Summary(seed, size), text.bytes(), sink),
@@ -185,6 +190,7 @@ fn run<K: Sink>(
     ensures broken_text { result ≡ Status.Broken → Appends (K.held sink.old) (K.held sink.new) (accepted_text command image.now list.now) }
     ensures one_history { result ≡ Status.Done → IsBoth (Some (Command.OnCase command)) → WritesOneHistory (K.held sink.old) (K.held sink.new) }
     ensures its_case { result ≡ Status.Done → IsDisassembly (Some (Command.OnCase command)) → WritesItsCase (Accepts image.now list.now) (K.held sink.old) (K.held sink.new) }
+    ensures one_summary { result ≡ Status.Done → SumsOneHistory command image.now list.now }
 {
     match command {
         CaseCommand::Run(method, count) => run_case(alloc, image, list, method, count, sink),
