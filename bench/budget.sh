@@ -1,13 +1,14 @@
 #!/bin/sh
 # Holds the program to its budget in instructions of the processor, which other work on the machine does not change: for each case the
 # instructions of one task step, as the difference of a run to 150,000 task steps and one to 50,000, divided by 100,000; and for texts
-# that are read and listed the instructions of the whole process. Prints a line for each case, and fails where one is above its budget.
-# Needs valgrind. First build the program: (cd crates/ucos3 && rt run)
+# that are read and listed the instructions of the whole process, and the most memory that it takes at once. Prints a line for each case,
+# and fails where one is above its budget. Needs valgrind and /usr/bin/time. First build the program: (cd crates/ucos3 && rt run)
 set -eu
 cd "$(dirname "$0")/.."
 . bench/built.sh
 built ucos3
 command -v valgrind > /dev/null || { echo "no valgrind here" >&2; exit 1; }
+test -x /usr/bin/time || { echo "no /usr/bin/time here" >&2; exit 1; }
 
 task='.task a, go, 10, 0, 0, 0x140000'
 
@@ -62,6 +63,11 @@ most_instructions() {
     awk 'BEGIN { for (i = 0; i < 1048576; i++) print "nop" }'
 }
 
+# The most lines that a text can have with a statement on each.
+most_lines() {
+    awk 'BEGIN { for (i = 0; i < 2097152; i++) print "a" }'
+}
+
 # As many instructions as the code can have.
 full_code() {
     awk 'BEGIN {
@@ -108,6 +114,14 @@ measure_list() {
     if [ "$millions" -gt "$2" ]; then over=1; fi
 }
 
+# Measures the most memory of the listing of a text against its budget in kB.
+measure_memory() {
+    "$1" > "$folder/$1"
+    kilobytes=$(/usr/bin/time -f %M "$program" list < "$folder/$1" 2>&1 > /dev/null | tail -n 1)
+    echo "$1: $kilobytes kB at most, budget $2"
+    if [ "$kilobytes" -gt "$2" ]; then over=1; fi
+}
+
 measure loop 130
 measure memory 150
 measure semaphore 600
@@ -118,4 +132,6 @@ compare semaphore
 measure_list full_text 135
 measure_list most_instructions 800
 measure_list full_code 36
+measure_memory most_instructions 130000
+measure_memory most_lines 250000
 exit $over

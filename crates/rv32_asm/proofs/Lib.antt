@@ -1,6 +1,7 @@
 pub mod NameLaws
 pub mod RowLaws
 pub mod LineLaws
+pub mod LinePlacesLaws
 pub mod TokenCount
 pub mod CauseLaws
 pub mod PlainForms

@@ -8,6 +8,7 @@ pub mod Forms
 pub mod Lines
 pub mod Names
 pub mod Operands
+pub mod LinePlacesView
 pub mod Causes
 pub mod Places
 pub mod Refusal

@@ -18,6 +18,7 @@ ghost use Rattle.rv32_asm.specs.DraftView.{raw_of};
 use crate::AsmError;
 use crate::draft::Draft;
 use crate::instructions::push_words;
+use crate::line_places::LinePlaces;
 use crate::lines::read;
 use crate::mnemonics::Section;
 use crate::names::{Names, counted, names_of};
@@ -32,7 +33,7 @@ use std::alloc::{AllocError, Global};
 use text_lex::{TEXT_LIMIT, Token};
 
 // The words that four operands are.
-fn four_words(text: &[u8], names: &Names, places: &[Place], values: &[Operand; 4]) -> [u32; 4]
+fn four_words(text: &[u8], names: &Names, places: &LinePlaces, values: &[Operand; 4]) -> [u32; 4]
     ensures { result ≡ map (value_for text.now (known_in names.now) places.now) values.now }
 {
     [
@@ -44,7 +45,7 @@ fn four_words(text: &[u8], names: &Names, places: &[Place], values: &[Operand; 4
 }
 
 // The words that five operands are.
-fn five_words(text: &[u8], names: &Names, places: &[Place], values: &[Operand; 5]) -> [u32; 5]
+fn five_words(text: &[u8], names: &Names, places: &LinePlaces, values: &[Operand; 5]) -> [u32; 5]
     ensures { result ≡ map (value_for text.now (known_in names.now) places.now) values.now }
 {
     [
@@ -94,7 +95,7 @@ fn add_line(
     text: &[u8],
     tokens: &[Token],
     names: &Names,
-    places: &[Place],
+    places: &LinePlaces,
     place: Place,
     line: &Line,
 ) -> Result<(), AllocError>
@@ -106,7 +107,7 @@ fn add_line(
 {
     match &line.statement {
         Statement::Task(name, values) => {
-            let values = five_words(text, names, places, values);
+            let values = five_words(text, names, places, values.all());
             let task = task_of(spelling(text, *name), values, line.number);
             draft.tasks.push(task)?;
             Ok(())
@@ -115,13 +116,13 @@ fn add_line(
             draft.objects.push(ObjDef {
                 name: Name::of(spelling(text, *name)),
                 kind: *kind,
-                f: four_words(text, names, places, values),
+                f: four_words(text, names, places, values.all()),
                 line: line.number,
             })?;
             Ok(())
         }
         Statement::Vector(values) => {
-            let values = four_words(text, names, places, values);
+            let values = four_words(text, names, places, values.all());
             draft.vectors.push(vector_of(values, line.number))?;
             Ok(())
         }
@@ -160,12 +161,12 @@ fn assemble_lines(
     text: &[u8],
     tokens: &[Token],
     names: &Names,
-    places: &[Place],
+    places: &LinePlaces,
     calm: usize,
     lines: &[Line],
 ) -> Result<RawImage, AsmError>
     requires few_tokens { length tokens.now < 2 ^ 32 }
-    requires few_lines { length lines.now < 2 ^ 62 }
+    requires few_lines { length lines.now ≤ 2 ^ 32 }
     requires calm { calm ≡ calm_lines text.now tokens.now (known_in names.now) lines.now }
     ensures image { IfOk result (λ raw. (used : ℕ) → assembled_from text.now tokens.now (known_in names.now) places.now no_counts no_place empty_image used lines.now ≡ Gives raw used) }
     ensures fault { IfErr result (λ error. (used : ℕ) → IsFault error (assembled_from text.now tokens.now (known_in names.now) places.now no_counts no_place empty_image used lines.now)) }
@@ -199,7 +200,7 @@ fn assemble_all(
     lines: &[Line],
 ) -> Result<RawImage, AsmError>
     requires few_tokens { length tokens.now < 2 ^ 32 }
-    requires few_lines { length lines.now < 2 ^ 62 }
+    requires few_lines { length lines.now ≤ 2 ^ 32 }
     ensures image { IfOk result (λ raw. (used : ℕ) → assembled_lines text.now tokens.now (record { lines = lines.now; used = used }) ≡ Gives raw used) }
     ensures fault { IfErr result (λ error. (used : ℕ) → IsFault error (assembled_lines text.now tokens.now (record { lines = lines.now; used = used }))) }
 {

@@ -10,11 +10,11 @@ ghost use Rattle.rv32_asm.specs.Operands.{registers_in, values_in, operands_amon
 ghost use Rattle.rv32_asm.specs.Causes as causes;
 
 use crate::causes::AsmCause;
+use crate::line_places::LinePlaces;
 use crate::mnemonics::Section;
 use crate::names::{Names, definition_of, meaning};
 use crate::operands::{
-    constant_in, constant_of, fits_low, fits_shift, fits_upper, offset_of, part, place_at,
-    target_in,
+    constant_in, constant_of, fits_low, fits_shift, fits_upper, offset_of, part, target_in,
 };
 use crate::pieces::{Operand, Piece, Span, make_piece, spelling};
 use crate::places::{Counts, Definition, Meaning, Place};
@@ -204,9 +204,9 @@ fn some_value_stands_for_nothing(
             names,
             part(tokens, *at, *count),
         ),
-        Statement::Task(_, values) => some_stands_for_nothing(text, names, values),
-        Statement::Object(_, _, values) => some_stands_for_nothing(text, names, values),
-        Statement::Vector(values) => some_stands_for_nothing(text, names, values),
+        Statement::Task(_, values) => some_stands_for_nothing(text, names, values.all()),
+        Statement::Object(_, _, values) => some_stands_for_nothing(text, names, values.all()),
+        Statement::Vector(values) => some_stands_for_nothing(text, names, values.all()),
         Statement::Setting(_, value) => stands_for_nothing(text, names, *value),
         Statement::LoadValue(_, value) => stands_for_nothing(text, names, *value),
         _ => false,
@@ -351,7 +351,7 @@ fn is_out_of_reach(statement: &Statement, from: Place, to: Place) -> bool
 }
 
 fn target_fails(
-    places: &[Place],
+    places: &LinePlaces,
     statement: &Statement,
     from: Place,
     target: Option<Meaning>,
@@ -359,7 +359,7 @@ fn target_fails(
     ensures { result ≡ causes.target_fails places.now statement.now from target }
 {
     match target {
-        Some(Meaning::Label(line)) => is_out_of_reach(statement, from, place_at(places, line)),
+        Some(Meaning::Label(line)) => is_out_of_reach(statement, from, places.at(line)),
         _ => false,
     }
 }
@@ -368,7 +368,7 @@ fn target_fails(
 pub fn has_far_target(
     text: &[u8],
     names: &Names,
-    places: &[Place],
+    places: &LinePlaces,
     from: Place,
     statement: &Statement,
 ) -> bool

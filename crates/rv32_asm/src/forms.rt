@@ -1,8 +1,9 @@
 // The forms of the statements: what the pieces after the first word of a line have to be.
 
-ghost use Rattle.std.specs.Prelude.{◌≡◌, slice_index_or};
+ghost use Rattle.std.specs.Prelude.{◌≡◌, slice_index_or, IfOk};
 ghost use Rattle.rv32_asm.specs.Forms as forms;
 
+use crate::fields::Fields;
 use crate::mnemonics::{
     AloneOp, BranchOp, Head, ImmediateOp, Pseudo, RegisterOp, ShiftOp, StoreOp, UpperOp,
 };
@@ -12,6 +13,7 @@ use crate::statements::Statement;
 use crate::tables::entry;
 use crate::words::{key_of, service_number};
 use kern_base::Kind;
+use std::alloc::{AllocError, Global};
 
 const ZERO: Operand = Operand::Number(0);
 
@@ -321,31 +323,37 @@ fn pseudo_form(text: &[u8], pseudo: Pseudo, pieces: &[Piece]) -> Option<Statemen
 
 /// The statement that begins with this head and goes on with these pieces, or None where they are not
 /// its form. The first piece is the token at the place `at`.
-pub fn form(text: &[u8], at: usize, head: Head, pieces: &[Piece]) -> Option<Statement>
-    ensures { result ≡ forms.form text.now at head pieces.now }
+pub fn form(
+    alloc: Global,
+    text: &[u8],
+    at: usize,
+    head: Head,
+    pieces: &[Piece],
+) -> Result<Option<Statement>, AllocError>
+    ensures { IfOk result (λ made. made ≡ forms.form text.now at head pieces.now) }
 {
     match head {
-        Head::Registers(op) => register_form(text, op, pieces),
-        Head::Immediate(op) => immediate_form(text, op, pieces),
-        Head::Load(op) => load_form(text, op, pieces),
-        Head::Shift(op) => shift_form(text, op, pieces),
-        Head::Store(op) => store_form(text, op, pieces),
-        Head::Branch(op) => branch_form(text, op, pieces),
-        Head::Upper(op) => upper_form(text, op, pieces),
-        Head::Jump => jump_form(text, pieces),
-        Head::Alone(op) => alone_form(Statement::Alone(op), pieces),
-        Head::Pseudo(pseudo) => pseudo_form(text, pseudo, pieces),
-        Head::Section(section) => alone_form(Statement::Section(section), pieces),
-        Head::Word => word_form(at, pieces),
-        Head::Space => space_form(pieces),
-        Head::Equ => equ_form(pieces),
-        Head::Task => task_form(pieces),
-        Head::Object(kind) => object_form(kind, pieces),
-        Head::Mutex => mutex_form(pieces),
-        Head::Timer => timer_form(text, pieces),
-        Head::Vector => vector_form(pieces),
-        Head::Config => config_form(text, pieces),
-        Head::Inject => alone_form(Statement::Inject, pieces),
+        Head::Registers(op) => Ok(register_form(text, op, pieces)),
+        Head::Immediate(op) => Ok(immediate_form(text, op, pieces)),
+        Head::Load(op) => Ok(load_form(text, op, pieces)),
+        Head::Shift(op) => Ok(shift_form(text, op, pieces)),
+        Head::Store(op) => Ok(store_form(text, op, pieces)),
+        Head::Branch(op) => Ok(branch_form(text, op, pieces)),
+        Head::Upper(op) => Ok(upper_form(text, op, pieces)),
+        Head::Jump => Ok(jump_form(text, pieces)),
+        Head::Alone(op) => Ok(alone_form(Statement::Alone(op), pieces)),
+        Head::Pseudo(pseudo) => Ok(pseudo_form(text, pseudo, pieces)),
+        Head::Section(section) => Ok(alone_form(Statement::Section(section), pieces)),
+        Head::Word => Ok(word_form(at, pieces)),
+        Head::Space => Ok(space_form(pieces)),
+        Head::Equ => Ok(equ_form(pieces)),
+        Head::Task => task_form(alloc, pieces),
+        Head::Object(kind) => object_form(alloc, kind, pieces),
+        Head::Mutex => mutex_form(alloc, pieces),
+        Head::Timer => timer_form(alloc, text, pieces),
+        Head::Vector => vector_form(alloc, pieces),
+        Head::Config => Ok(config_form(text, pieces)),
+        Head::Inject => Ok(alone_form(Statement::Inject, pieces)),
     }
 }
 
@@ -396,8 +404,8 @@ fn equ_form(pieces: &[Piece]) -> Option<Statement>
 }
 
 // name, entry, priority, quantum, queue size, stack pointer
-fn task_form(pieces: &[Piece]) -> Option<Statement>
-    ensures { result ≡ forms.task_form pieces.now }
+fn task_form(alloc: Global, pieces: &[Piece]) -> Result<Option<Statement>, AllocError>
+    ensures { IfOk result (λ made. made ≡ forms.task_form pieces.now) }
 {
     match pieces {
         [
@@ -412,34 +420,41 @@ fn task_form(pieces: &[Piece]) -> Option<Statement>
             Piece::Is(qsize),
             Piece::Comma,
             Piece::Is(sp),
-        ] => Some(Statement::Task(*name, [*entry, *prio, *quanta, *qsize, *sp])),
-        _ => None,
+        ] => {
+            let fields = Fields::new(alloc, [*entry, *prio, *quanta, *qsize, *sp])?;
+            Ok(Some(Statement::Task(*name, fields)))
+        }
+        _ => Ok(None),
     }
 }
 
 // name, count or size or bits
-fn object_form(kind: Kind, pieces: &[Piece]) -> Option<Statement>
-    ensures { result ≡ forms.object_form kind pieces.now }
+fn object_form(alloc: Global, kind: Kind, pieces: &[Piece]) -> Result<Option<Statement>, AllocError>
+    ensures { IfOk result (λ made. made ≡ forms.object_form kind pieces.now) }
 {
     match pieces {
         [
             Piece::Is(Operand::Named(name)),
             Piece::Comma,
             Piece::Is(value),
-        ] => { Some(Statement::Object(*name, kind, [*value, ZERO, ZERO, ZERO])) }
-        _ => None,
+        ] => {
+            let fields = Fields::new(alloc, [*value, ZERO, ZERO, ZERO])?;
+            Ok(Some(Statement::Object(*name, kind, fields)))
+        }
+        _ => Ok(None),
     }
 }
 
 // name
-fn mutex_form(pieces: &[Piece]) -> Option<Statement>
-    ensures { result ≡ forms.mutex_form pieces.now }
+fn mutex_form(alloc: Global, pieces: &[Piece]) -> Result<Option<Statement>, AllocError>
+    ensures { IfOk result (λ made. made ≡ forms.mutex_form pieces.now) }
 {
     match pieces {
         [Piece::Is(Operand::Named(name))] => {
-            Some(Statement::Object(*name, Kind::Mutex, [ZERO, ZERO, ZERO, ZERO]))
+            let fields = Fields::new(alloc, [ZERO, ZERO, ZERO, ZERO])?;
+            Ok(Some(Statement::Object(*name, Kind::Mutex, fields)))
         }
-        _ => None,
+        _ => Ok(None),
     }
 }
 
@@ -467,20 +482,29 @@ fn callback(text: &[u8], operand: Operand) -> Operand
 }
 
 // A timer of a kind that stands in a word.
-fn timer_of(text: &[u8], name: Span, kind: Operand, fields: [Operand; 4]) -> Option<Statement>
-    ensures { result ≡ forms.timer_of text.now name kind (slice_index_or fields 0 kind) (slice_index_or fields 1 kind) (slice_index_or fields 2 kind) (slice_index_or fields 3 kind) }
+fn timer_of(
+    alloc: Global,
+    text: &[u8],
+    name: Span,
+    kind: Operand,
+    fields: [Operand; 4],
+) -> Result<Option<Statement>, AllocError>
+    ensures { IfOk result (λ made. made ≡ forms.timer_of text.now name kind (slice_index_or fields 0 kind) (slice_index_or fields 1 kind) (slice_index_or fields 2 kind) (slice_index_or fields 3 kind)) }
 {
     let Operand::Named(word) = kind else {
-        return None;
+        return Ok(None);
     };
-    let kind = timer_kind(spelling(text, word))?;
+    let Some(kind) = timer_kind(spelling(text, word)) else {
+        return Ok(None);
+    };
     let [delay, period, call, argument] = fields;
-    Some(Statement::Object(name, kind, [delay, period, callback(text, call), argument]))
+    let fields = Fields::new(alloc, [delay, period, callback(text, call), argument])?;
+    Ok(Some(Statement::Object(name, kind, fields)))
 }
 
 // name, kind, delay, period, callback, argument
-fn timer_form(text: &[u8], pieces: &[Piece]) -> Option<Statement>
-    ensures { result ≡ forms.timer_form text.now pieces.now }
+fn timer_form(alloc: Global, text: &[u8], pieces: &[Piece]) -> Result<Option<Statement>, AllocError>
+    ensures { IfOk result (λ made. made ≡ forms.timer_form text.now pieces.now) }
 {
     match pieces {
         [
@@ -495,14 +519,20 @@ fn timer_form(text: &[u8], pieces: &[Piece]) -> Option<Statement>
             Piece::Is(call),
             Piece::Comma,
             Piece::Is(argument),
-        ] => timer_of(text, *name, *kind, [*delay, *period, *call, *argument]),
-        _ => None,
+        ] => timer_of(
+            alloc,
+            text,
+            *name,
+            *kind,
+            [*delay, *period, *call, *argument],
+        ),
+        _ => Ok(None),
     }
 }
 
 // number, level, entry, stack pointer
-fn vector_form(pieces: &[Piece]) -> Option<Statement>
-    ensures { result ≡ forms.vector_form pieces.now }
+fn vector_form(alloc: Global, pieces: &[Piece]) -> Result<Option<Statement>, AllocError>
+    ensures { IfOk result (λ made. made ≡ forms.vector_form pieces.now) }
 {
     match pieces {
         [
@@ -513,8 +543,11 @@ fn vector_form(pieces: &[Piece]) -> Option<Statement>
             Piece::Is(entry),
             Piece::Comma,
             Piece::Is(sp),
-        ] => Some(Statement::Vector([*number, *level, *entry, *sp])),
-        _ => None,
+        ] => {
+            let fields = Fields::new(alloc, [*number, *level, *entry, *sp])?;
+            Ok(Some(Statement::Vector(fields)))
+        }
+        _ => Ok(None),
     }
 }
 

@@ -10,9 +10,10 @@ ghost use Rattle.rv32_asm.specs.NamesView.{known_in};
 ghost use Rattle.rv32_asm.specs.Instructions as instructions;
 
 use crate::checks::distance;
+use crate::line_places::LinePlaces;
 use crate::mnemonics::{AloneOp, BranchOp, ImmediateOp, RegisterOp, ShiftOp, StoreOp, UpperOp};
 use crate::names::{Names, meaning};
-use crate::operands::{constant_of, fits_low, part, place_at, value_of, word_of};
+use crate::operands::{constant_of, fits_low, part, value_of, word_of};
 use crate::pieces::{Operand, Piece, Span, make_piece};
 use crate::places::{Meaning, Place};
 use crate::placing::space_size;
@@ -197,17 +198,23 @@ fn shift_constant(text: &[u8], names: &Names, operand: Operand) -> i32
     constant(text, names, operand) as i32
 }
 
-fn distance_to(places: &[Place], from: Place, target: Option<Meaning>) -> i128
+fn distance_to(places: &LinePlaces, from: Place, target: Option<Meaning>) -> i128
     ensures { result ≡ instructions.distance_to places.now from target }
 {
     match target {
-        Some(Meaning::Label(line)) => distance(from, place_at(places, line)),
+        Some(Meaning::Label(line)) => distance(from, places.at(line)),
         _ => 0,
     }
 }
 
 // The distance to a target that a branch reaches.
-fn branch_distance(text: &[u8], names: &Names, places: &[Place], from: Place, target: Span) -> i32
+fn branch_distance(
+    text: &[u8],
+    names: &Names,
+    places: &LinePlaces,
+    from: Place,
+    target: Span,
+) -> i32
     requires { branch_reaches (instructions.target_distance text.now (known_in names.now) places.now from target) ≡ true }
     ensures { result ≡ instructions.target_distance text.now (known_in names.now) places.now from target }
 {
@@ -215,7 +222,7 @@ fn branch_distance(text: &[u8], names: &Names, places: &[Place], from: Place, ta
 }
 
 // The distance to a target that a jump reaches.
-fn jump_distance(text: &[u8], names: &Names, places: &[Place], from: Place, target: Span) -> i32
+fn jump_distance(text: &[u8], names: &Names, places: &LinePlaces, from: Place, target: Span) -> i32
     requires { jump_reaches (instructions.target_distance text.now (known_in names.now) places.now from target) ≡ true }
     ensures { result ≡ instructions.target_distance text.now (known_in names.now) places.now from target }
 {
@@ -276,7 +283,7 @@ fn push_values(
     words: &mut Vec<u32>,
     text: &[u8],
     names: &Names,
-    places: &[Place],
+    places: &LinePlaces,
     tokens: &[Token],
 ) -> Result<(), AllocError>
     ensures { OnOk result (words.new.items ≡ words.old.items ++ map (value_for text.now (known_in names.now) places.now) (operands_among tokens.now)) }
@@ -305,7 +312,7 @@ fn push_zeros(words: &mut Vec<u32>, count: u64) -> Result<(), AllocError>
 fn instruction(
     text: &[u8],
     names: &Names,
-    places: &[Place],
+    places: &LinePlaces,
     from: Place,
     statement: &Statement,
 ) -> Option<Instr>
@@ -356,7 +363,7 @@ pub fn push_words(
     text: &[u8],
     tokens: &[Token],
     names: &Names,
-    places: &[Place],
+    places: &LinePlaces,
     from: Place,
     statement: &Statement,
 ) -> Result<(), AllocError>

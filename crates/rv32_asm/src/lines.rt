@@ -30,27 +30,41 @@ impl Model for Reading {
 }
 
 // The statement that begins with this head.
-fn headed(text: &[u8], at: usize, head: Span, pieces: &[Piece]) -> Statement
-    ensures { result ≡ headed text.now at (head_of (spelling text.now head)) pieces.now }
+fn headed(
+    alloc: Global,
+    text: &[u8],
+    at: usize,
+    head: Span,
+    pieces: &[Piece],
+) -> Result<Statement, AllocError>
+    ensures { IfOk result (λ made. made ≡ headed text.now at (head_of (spelling text.now head)) pieces.now) }
 {
     match head_of(spelling(text, head)) {
-        None => Statement::Unknown,
-        Some(head) => form(text, at, head, pieces).unwrap_or(Statement::Malformed),
+        None => Ok(Statement::Unknown),
+        Some(head) => {
+            let made = form(alloc, text, at, head, pieces)?;
+            Ok(made.unwrap_or(Statement::Malformed))
+        }
     }
 }
 
 // The statement that these pieces are, the first of them the token at the place `at`.
-fn statement_of(text: &[u8], at: usize, pieces: &[Piece]) -> Statement
+fn statement_of(
+    alloc: Global,
+    text: &[u8],
+    at: usize,
+    pieces: &[Piece],
+) -> Result<Statement, AllocError>
     requires { at + length pieces.now < 2 ^ 64 }
-    ensures { result ≡ statement_of text.now at pieces.now }
+    ensures { IfOk result (λ made. made ≡ statement_of text.now at pieces.now) }
 {
     match pieces {
-        [] => Statement::Nothing,
+        [] => Ok(Statement::Nothing),
         [
             Piece::Is(Operand::Named(head)) | Piece::Dotted(head),
             behind @ ..,
-        ] => { headed(text, at + 1, *head, behind) }
-        _ => Statement::Unknown,
+        ] => { headed(alloc, text, at + 1, *head, behind) }
+        _ => Ok(Statement::Unknown),
     }
 }
 
@@ -65,21 +79,27 @@ fn behind_label(statement: Statement) -> Statement
 }
 
 // The line that these pieces are, the first of them the token at the place `at`.
-fn line_of(text: &[u8], at: usize, number: u32, pieces: &[Piece]) -> Line
+fn line_of(
+    alloc: Global,
+    text: &[u8],
+    at: usize,
+    number: u32,
+    pieces: &[Piece],
+) -> Result<Line, AllocError>
     requires { at + length pieces.now < 2 ^ 64 }
-    ensures { result ≡ line_of text.now at number pieces.now }
+    ensures { IfOk result (λ line. line ≡ line_of text.now at number pieces.now) }
 {
     match pieces {
-        [Piece::Is(Operand::Named(label)), Piece::Colon, behind @ ..] => Line {
+        [Piece::Is(Operand::Named(label)), Piece::Colon, behind @ ..] => Ok(Line {
             number,
             label: Some(*label),
-            statement: behind_label(statement_of(text, at + 2, behind)),
-        },
-        _ => Line {
+            statement: behind_label(statement_of(alloc, text, at + 2, behind)?),
+        }),
+        _ => Ok(Line {
             number,
             label: None,
-            statement: statement_of(text, at, pieces),
-        },
+            statement: statement_of(alloc, text, at, pieces)?,
+        }),
     }
 }
 
@@ -129,7 +149,7 @@ pub fn read(alloc: Global, text: &[u8], tokens: &[Token]) -> Result<Reading, All
         let end = row_end(tokens, at);
         if at < end {
             refill(&mut pieces, &tokens[at..end])?;
-            let line = line_of(text, at, tokens[at].line, &pieces);
+            let line = line_of(alloc, text, at, tokens[at].line, &pieces)?;
             if is_inject(&line.statement) {
                 return Ok(Reading {
                     lines,

@@ -229,7 +229,7 @@ pub enum Pseudo {
 }
 
 /// Where words go: `Nowhere` before the first section.
-#[derive(Clone, Copy)]
+#[derive(Clone, Copy, PartialEq, Eq)]
 pub enum Section {
     Nowhere,
     Code,

@@ -4,10 +4,11 @@ ghost use Rattle.std.specs.Prelude.{◌≡◌, pos};
 ghost use Rattle.rv32_asm.specs.NamesView.{known_in};
 ghost use Rattle.rv32_asm.specs.Operands as operands;
 
+use crate::line_places::LinePlaces;
 use crate::mnemonics::Section;
 use crate::names::{Names, meaning};
 use crate::pieces::{Operand, Span};
-use crate::places::{Meaning, NO_PLACE, Place};
+use crate::places::{Meaning, Place};
 use crate::statements::Statement;
 use text_lex::Token;
 
@@ -93,13 +94,6 @@ fn address_of(place: Place) -> u128
     u128::from(base_of(place.section)) + u128::from(offset_of(place, place.section))
 }
 
-/// Where the line begins that so many lines stand before.
-pub fn place_at(places: &[Place], line: usize) -> Place
-    ensures { result ≡ operands.place_at places.now line }
-{
-    places.get(line).copied().unwrap_or(NO_PLACE)
-}
-
 /// A number modulo 2^32.
 pub fn word_of(value: i64) -> u32
     ensures { result ≡ operands.word_of value }
@@ -108,18 +102,18 @@ pub fn word_of(value: i64) -> u32
 }
 
 // The word that a meaning is: a constant, or the address of a label.
-fn word_for(places: &[Place], meaning: Option<Meaning>) -> u32
+fn word_for(places: &LinePlaces, meaning: Option<Meaning>) -> u32
     ensures { result ≡ operands.word_for places.now meaning }
 {
     match meaning {
         None => 0,
         Some(Meaning::Constant(value)) => word_of(value),
-        Some(Meaning::Label(line)) => (address_of(place_at(places, line)) % 0x1_0000_0000) as u32,
+        Some(Meaning::Label(line)) => (address_of(places.at(line)) % 0x1_0000_0000) as u32,
     }
 }
 
 /// The word that an operand is.
-pub fn value_of(text: &[u8], names: &Names, places: &[Place], operand: Operand) -> u32
+pub fn value_of(text: &[u8], names: &Names, places: &LinePlaces, operand: Operand) -> u32
     ensures { result ≡ operands.value_of text.now (known_in names.now) places.now operand }
 {
     match operand {

@@ -21,7 +21,7 @@ pub const NO_COUNTS: Counts = Counts {
 };
 
 /// What stands before a line: the section, and the bytes of code and of RAM.
-#[derive(Clone, Copy)]
+#[derive(Clone, Copy, PartialEq, Eq)]
 pub struct Place {
     pub section: Section,
     pub code: u64,

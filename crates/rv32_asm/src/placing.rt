@@ -8,6 +8,7 @@ ghost use Rattle.rv32_asm.specs.Steps as steps;
 ghost use Rattle.rv32_asm.specs.Calm as spec;
 
 use crate::checks::{is_early, is_instruction};
+use crate::line_places::LinePlaces;
 use crate::mnemonics::Section;
 use crate::names::{Names, counted};
 use crate::operands::{constant_of, fits_low, part};
@@ -142,7 +143,7 @@ fn calm_after(calm: usize, is_calm: bool) -> usize
 /// Where the lines of a text begin.
 #[derive(Drop)]
 pub struct Placed {
-    pub places: Vec<Place>,
+    pub places: LinePlaces,
     /// How many lines stand before the first that has an early cause.
     pub calm: usize,
 }
@@ -156,11 +157,11 @@ pub fn places_of(
     lines: &[Line],
 ) -> Result<Placed, AllocError>
     requires few_tokens { length tokens.now < 2 ^ 32 }
-    requires few_lines { length lines.now < 2 ^ 62 }
-    ensures places { IfOk result (λ found. found.places.items ≡ steps.places_of text.now tokens.now (known_in names.now) lines.now) }
+    requires few_lines { length lines.now ≤ 2 ^ 32 }
+    ensures places { IfOk result (λ found. found.places ≡ steps.places_of text.now tokens.now (known_in names.now) lines.now) }
     ensures calm { IfOk result (λ found. found.calm ≡ spec.calm_lines text.now tokens.now (known_in names.now) lines.now) }
 {
-    let mut places = Vec::new(alloc);
+    let mut places = LinePlaces::new(alloc);
     let mut counts = NO_COUNTS;
     let mut place = NO_PLACE;
     let mut calm: usize = 0;

@@ -9,6 +9,7 @@ ghost use Rattle.rv32_asm.specs.Calm as spec;
 
 use crate::causes::AsmCause;
 use crate::checks::{has_early, has_far_target};
+use crate::line_places::LinePlaces;
 use crate::mnemonics::Section;
 use crate::names::Names;
 use crate::places::{Counts, Place};
@@ -44,7 +45,7 @@ struct LineContext<'a> {
     text: &'a [u8],
     tokens: &'a [Token],
     names: &'a Names<'a>,
-    places: &'a [Place],
+    places: &'a LinePlaces,
     counts: Counts,
     place: Place,
     line: &'a Line,
@@ -113,7 +114,7 @@ fn late_cause(
     text: &[u8],
     tokens: &[Token],
     names: &Names,
-    places: &[Place],
+    places: &LinePlaces,
     place: Place,
     statement: &Statement,
 ) -> Option<AsmCause>
@@ -140,7 +141,7 @@ pub fn cause_of(
     text: &[u8],
     tokens: &[Token],
     names: &Names,
-    places: &[Place],
+    places: &LinePlaces,
     counts: Counts,
     place: Place,
     line: &Line,

@@ -1,5 +1,6 @@
 // What stands on a line.
 
+use crate::fields::Fields;
 use crate::mnemonics::{
     AloneOp, BranchOp, ImmediateOp, RegisterOp, Section, ShiftOp, StoreOp, UpperOp,
 };
@@ -8,7 +9,7 @@ use app_image::ConfigKey;
 use kern_base::Kind;
 
 /// What follows the label of a line. A register is None where a name stands that is no register.
-#[derive(Clone, Copy)]
+#[derive(Drop)]
 pub enum Statement {
     /// No statement.
     Nothing,
@@ -23,11 +24,11 @@ pub enum Statement {
     Space(Operand),
     Equ(Span, i64),
     /// Name; entry, priority, quantum, queue size and stack pointer.
-    Task(Span, [Operand; 5]),
+    Task(Span, Fields<5>),
     /// Name, kind, and the four fields of its record.
-    Object(Span, Kind, [Operand; 4]),
+    Object(Span, Kind, Fields<4>),
     /// Number, level, entry and stack pointer.
-    Vector([Operand; 4]),
+    Vector(Fields<4>),
     /// None where the key is no setting.
     Setting(Option<ConfigKey>, Operand),
     /// rd, rs1, rs2.
@@ -54,7 +55,7 @@ pub enum Statement {
 }
 
 /// A line of the text that is not empty.
-#[derive(Clone, Copy)]
+#[derive(Drop)]
 pub struct Line {
     /// Its number in the text, from 1.
     pub number: u32,

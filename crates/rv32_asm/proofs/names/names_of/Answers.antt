@@ -1,10 +1,9 @@
-use Rattle.std.proofs.Common.{◌≡◌, ◌+◌, ◌∷◌, drop, get_or, arith, refl, ◌∙◌}
+use Rattle.std.proofs.Common.{◌≡◌, ◌+◌, ◌∷◌, drop, ap, sym, arith, refl, ◌∙◌}
 use Rattle.std.proofs.lemmas.Grind.{common_steps}
 use Rattle.std.proofs.lemmas.List.{drop_more}
 use Rattle.std.specs.Prelude.{None}
 use Rattle.rv32_asm.specs.NamesView.{known_in}
 use Rattle.rv32_asm.specs.declared.statements.Line.{Line}
-use Rattle.rv32_asm.specs.declared.statements.Statement.TheVariants.{Nothing}
 use Rattle.rv32_asm.proofs.NameLaws.{line_defined, start_defined, CountsBelow, counted_below}
 use Rattle.rv32_asm.proofs.names.names_of.Goals as goal
 
@@ -19,8 +18,8 @@ loop-line-init c = record {
 
 pub loop-line-preserved : goal.loop-line-preserved
 loop-line-preserved c =
-    let here : Line = get_or c.args.lines.now c.loop-line.line-index (record { number = 0; label = None; statement = Nothing }) in
-    let split : drop c.loop-line.line-index c.args.lines.now ≡ here ∷ drop (c.loop-line.line-index + 1) c.args.lines.now = drop_more c.args.lines.now c.loop-line.line-index (record { number = 0; label = None; statement = Nothing }) c.loop-line-test.true in
+    let here : Line = c.line-item.result in
+    let split : drop c.loop-line.line-index c.args.lines.now ≡ here ∷ drop (c.loop-line.line-index + 1) c.args.lines.now = drop_more c.args.lines.now c.loop-line.line-index here c.loop-line-test.true ∙ ap (λ l. l ∷ drop (c.loop-line.line-index + 1) c.args.lines.now) (sym c.line-item.is) in
     let bounds : CountsBelow (c.loop-line.line-index + 1) c.counted-counts.result = counted_below here.statement c.loop-line.counts c.counted-counts.result c.loop-line.line-index c.counted-counts.ensures c.loop-line.invariant.lines c.loop-line.invariant.tasks c.loop-line.invariant.objects c.loop-line.invariant.vectors in
     record {
       known = λ q. rw c.counted-counts.ensures (line_defined c.args.text.now c.loop-line.counts here (drop (c.loop-line.line-index + 1) c.args.lines.now) q (known_in c.loop-line.names q) (known_in c.define_label.new.names q) (known_in c.define_constant.new.names q) (c.in_ok-define_label.ensures q) (c.in_ok-define_constant.ensures q) ∙ (rw split at (c.loop-line.invariant.known q)));
