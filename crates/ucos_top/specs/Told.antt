@@ -13,7 +13,6 @@ use Rattle.program_model.specs.declared.commands.Command.TheVariants.{OnCase, So
 use Rattle.program_model.specs.declared.commands.CaseCommand.{CaseCommand}
 use Rattle.program_model.specs.declared.commands.CaseCommand.TheVariants.{Both, Summary, Disassembly}
 use Rattle.kern_base.specs.declared.kinds.Method.TheVariants.{Direct, Deferred}
-use Rattle.inject_list.specs.Lists.{ListRecord}
 use Rattle.machine_model.specs.Run.{history}
 use Rattle.program_model.specs.Both.{run_of}
 use Rattle.program_model.specs.Case.{Case, Accepts, Refuses, case_of}
