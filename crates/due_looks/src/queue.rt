@@ -100,6 +100,7 @@ impl Looks {
         ensures due { result ≡ look_at s self.old }
         ensures rest { self.new ≡ without_look s self.old }
         ensures left { All (λ l. s ≤ l.at) self.new }
+        ensures later { result ≡ None → All (λ l. s + 1 ≤ l.at) self.new }
     {
         let look = self.due(s)?;
         self.next += 1;

@@ -5,7 +5,6 @@ use Rattle.due_looks.specs.Rest.{IsInOrder}
 use Rattle.due_looks.proofs.LookLaws.{due-here, due-later, due-past, none-due}
 use Rattle.due_looks.proofs.queue.Looks.due.Goals as goal
 
-
 pub returns-in-Some-clause-due : goal.returns-in-Some-clause-due
 returns-in-Some-clause-due c =
     let f = c.self.inside in
