@@ -1,15 +1,12 @@
 -- The looks by their moments.
-use Rattle.std.proofs.Common.{◌≡◌, ℕ, suc, ◌+◌, ◌<◌, ◌≤◌, Bool, true, false, List, [], ◌∷◌, ◌++◌, length, get_or, take, drop, drop-cons, refl, sym, ap, ◌∙◌, subst, arith, inl, inr}
-use Rattle.std.specs.Prelude.{Option, Some, None, All, if◌then◌else◌, ◌==◌, ◌&&◌, not}
-use Rattle.std.specs.Ordering.{is_lt, nat_cmp}
-use Rattle.std.specs.List.{filter}
-use Rattle.std.specs.List.Sorted.{IsNonDecreasingBy, IsStableByKey, ties}
-use Rattle.std.proofs.lemmas.Bool.Decides.{eqb_tells, leb_tells, nat_tests}
-use Rattle.std.proofs.lemmas.List.Elements.{All-cons, All-tail, All-filter, filter_agree}
+use Rattle.std.proofs.Common.{◌≡◌, ℕ, suc, ◌+◌, ◌<◌, ◌≤◌, List, [], ◌∷◌, ◌++◌, length, get_or, take, drop, drop-cons, refl, sym, ap, ◌∙◌, subst, arith, inl, inr}
+use Rattle.std.specs.Prelude.{Option, Some, None, All, if◌then◌else◌, ◌==◌}
+use Rattle.std.specs.List.Sorted.{IsNonDecreasingBy}
+use Rattle.std.proofs.lemmas.Bool.Decides.{eqb_tells, leb_tells}
+use Rattle.std.proofs.lemmas.List.Elements.{All-cons, All-tail, All-filter}
 use Rattle.std.proofs.Math.Seq.{take-suc}
 use Rattle.std.proofs.lemmas.List.{drop_all}
 use Rattle.inject_list.specs.declared.lists.Look.{Look}
-use Rattle.inject_list.specs.declared.lists.Seen.TheVariants.{Ready}
 use Rattle.machine_model.specs.Looks.{look_at, without_look}
 use Rattle.due_looks.specs.Rest.{of_moment, without_all, IsInOrder}
 
@@ -183,14 +180,3 @@ module _ (s n : ℕ) (order now : List Look) (o : IsInOrder now (drop n order)) 
         | inl q ↦ q.1
         | inr q ↦ let none : look_at s now ≡ None = due-later (due-place l e) d q.1 in absurd (some_none l (sym e ∙ none))
       ]
-
--- What a stable sort by moments gives.
-
-tie_is : (a b : ℕ) → (not (is_lt (nat_cmp a b)) && not (is_lt (nat_cmp b a))) ≡ (b == a)
-tie_is a b = grind (arith, nat_tests)
-
-pub same-moments : (lines order : List Look) → IsStableByKey (λ (l : Look). l.at) nat_cmp lines order → (t : ℕ) → of_moment t order ≡ of_moment t lines
-same-moments lines order stable t =
-    let x : Look = record { at = t; what = Ready (record { 0 = 0 }) } in
-    let agree : (l : Look) → ties (λ (a b : Look). is_lt (nat_cmp a.at b.at)) x l ≡ (l.at == t) = λ l. tie_is t l.at in
-    sym (filter_agree (ties (λ (a b : Look). is_lt (nat_cmp a.at b.at)) x) (λ l. l.at == t) agree order) ∙ stable x ∙ filter_agree (ties (λ (a b : Look). is_lt (nat_cmp a.at b.at)) x) (λ l. l.at == t) agree lines

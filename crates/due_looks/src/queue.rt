@@ -2,34 +2,41 @@
 
 ghost use Rattle.std.specs.Prelude.{◌≡◌, ◌+◌, ◌≤◌, false, None, IfOk, All, length, is_some};
 ghost use Rattle.machine_model.specs.Looks.{look_at, without_look};
-ghost use Rattle.due_looks.specs.Rest.{IsInOrder};
+ghost use Rattle.due_looks.specs.Order.{IsOrder, timed_from};
 
 use inject_list::{InjectList, Look};
 use kern_base::NoMemory;
 use std::alloc::Global;
 use std::marker::Model;
 
+// The moment of a look, and its number in the order of the lines.
+#[derive(Clone, Copy)]
+struct Timed {
+    moment: u64,
+    number: usize,
+}
+
 /// The looks of a list that are still to come, in the order of their lines. All memory is taken when it is made.
 ///
-/// `lines` has all looks in the order of their lines, `order` in the order of their moments, and the first `next`
-/// of that order have been taken.
+/// `lines` has all looks in the order of their lines, `order` their numbers in the order of their moments, and the
+/// first `next` of that order have been taken.
 #[derive(Drop)]
 pub struct Looks {
     lines: Vec<Look>,
-    order: Vec<Look>,
+    order: Vec<Timed>,
     next: usize,
 }
 
 impl Model for Looks {
-    ghost use Rattle.std.specs.Prelude.{List, take};
+    ghost use Rattle.std.specs.Prelude.{List};
     ghost use Rattle.inject_list.specs.declared.lists.Look.{Look};
 
     ghost Value = { List Look };
 
-    ghost use Rattle.due_looks.specs.Rest.{without_all};
+    ghost use Rattle.due_looks.specs.Order.{left};
     ghost use Rattle.due_looks.specs.Kept.{IsKept};
 
-    ghost view = { λ a. without_all (take a.next a.order.items) a.lines.items };
+    ghost view = { λ a. left a.lines.items a.order.items a.next };
 
     ghost invariant = { IsKept };
 }
@@ -47,12 +54,26 @@ fn copied(alloc: Global, looks: &[Look]) -> Result<Vec<Look>, NoMemory>
     Ok(copy)
 }
 
-// The looks in the order of their moments, and those of one moment in the order of their lines.
-fn in_order(alloc: Global, looks: &[Look]) -> Result<Vec<Look>, NoMemory>
-    ensures { IfOk result (λ v. IsInOrder looks.now v.items) }
+// The moments and the numbers of the looks, in the order of their lines.
+fn by_line(alloc: Global, looks: &[Look]) -> Result<Vec<Timed>, NoMemory>
+    ensures { IfOk result (λ v. v.items ≡ timed_from 0 looks.now) }
 {
-    let mut order = copied(alloc, looks)?;
-    let Ok(()) = order.sort_by_key(|look| look.at) else {
+    let mut timed = Vec::new(alloc);
+    for (number, look) in looks.iter().enumerate() {
+        let moment = look.at;
+        if timed.push(Timed { moment, number }).is_err() {
+            return Err(NoMemory);
+        }
+    }
+    Ok(timed)
+}
+
+// The same in the order of their moments, those of one moment in the order of their lines.
+fn in_order(alloc: Global, looks: &[Look]) -> Result<Vec<Timed>, NoMemory>
+    ensures { IfOk result (λ v. IsOrder looks.now v.items) }
+{
+    let mut order = by_line(alloc, looks)?;
+    let Ok(()) = order.sort_by_key(|timed| timed.moment) else {
         return Err(NoMemory);
     };
     Ok(order)
@@ -79,7 +100,7 @@ impl Looks {
         ensures later { result ≡ None → All (λ l. s + 1 ≤ l.at) self.now }
     {
         match self.order.get(self.next) {
-            Some(look) if look.at == s => Some(*look),
+            Some(timed) if timed.moment == s => Some(self.lines[timed.number]),
             _ => None,
         }
     }
