@@ -41,19 +41,6 @@ impl Model for Looks {
     ghost invariant = { IsKept };
 }
 
-// A list of the same looks.
-fn copied(alloc: Global, looks: &[Look]) -> Result<Vec<Look>, NoMemory>
-    ensures { IfOk result (λ v. v.items ≡ looks.now) }
-{
-    let mut copy = Vec::new(alloc);
-    for look in looks {
-        if copy.push(*look).is_err() {
-            return Err(NoMemory);
-        }
-    }
-    Ok(copy)
-}
-
 // The moments and the numbers of the looks, in the order of their lines.
 fn by_line(alloc: Global, looks: &[Look]) -> Result<Vec<Timed>, NoMemory>
     ensures { IfOk result (λ v. v.items ≡ timed_from 0 looks.now) }
@@ -85,7 +72,9 @@ impl Looks {
         ensures { IfOk result (λ l. l ≡ list.now.looks) }
     {
         let order = in_order(alloc, &list.looks)?;
-        let lines = copied(alloc, &list.looks)?;
+        let Ok(lines) = list.looks.to_vec(alloc) else {
+            return Err(NoMemory);
+        };
         Ok(Looks {
             lines,
             order,
