@@ -238,6 +238,7 @@ impl<L: Links> Machine<L> {
 
     // No interrupt is due: the top frame leaves at its limit, which takes no raw step, or it runs one
     // instruction; where no frame stands, tasks work.
+    #[inline(always)]
     fn proceed(&mut self, line: &mut What) -> bool
         requires rule { rule self.old.method self.old.state ≡ rule_of_frames self.old.state.frames self.old.state }
         requires open_yet { self.old.state.t < most_task_steps }
