@@ -125,7 +125,7 @@ measure_memory() {
 measure loop 130
 measure memory 150
 measure semaphore 600
-measure two_tasks 550
+measure two_tasks 825
 measure interrupts 260
 compare loop
 compare semaphore
