@@ -1,6 +1,6 @@
 -- Causes of faults over several writes.
-use Rattle.std.proofs.Common.{◌≡◌, ◌⊎◌, ◌<◌, ◌≤◌, ℕ, inl, inr, sym, subst, arith}
-use Rattle.std.specs.Prelude.{◌-◌, ◌^◌, Result, Ok, Err, OnErr}
+use Rattle.std.proofs.Common.{◌≡◌, ◌≤◌, ℕ, inl, inr, sym, subst, arith}
+use Rattle.std.specs.Prelude.{Result, Ok, Err, OnErr}
 use Rattle.outside.specs.Causes.{HasCause, Rose}
 
 rose-after : (a b c : ℕ) → a ≤ b → Rose b c → Rose a c

@@ -13,10 +13,11 @@ use Rattle.program_model.specs.declared.commands.Command.TheVariants.{OnCase, So
 use Rattle.program_model.specs.declared.commands.CaseCommand.{CaseCommand}
 use Rattle.program_model.specs.declared.commands.CaseCommand.TheVariants.{Both, Summary, Disassembly}
 use Rattle.kern_base.specs.declared.kinds.Method.TheVariants.{Direct, Deferred}
-use Rattle.machine_model.specs.Run.{history}
+use Rattle.machine_model.specs.Run.{Run, history}
 use Rattle.program_model.specs.Both.{run_of}
 use Rattle.program_model.specs.Case.{Case, Accepts, Refuses, case_of}
 use Rattle.program_model.specs.Generated.{generated, steps_for}
+use Rattle.program_model.specs.Summary.{counts_of}
 
 -- where the source told its bytes, all of them are read
 abbrev pub ReadWhole : Option (List ℕ) → Option (List ℕ) → Type 0
@@ -95,12 +96,17 @@ pub record WritesOneHistory (old new : Option (List ℕ)) : Type 0 where
   pub rest : List ℕ
   pub written : Appends old new (codes "method direct\n" ++ (history ++ (codes "method deferred\n" ++ (history ++ (codes "P1 held\nP2 held\nP3 held\nP4 held\n" ++ rest)))))
 
--- of a summary: the two runs that it sums up have one task history
+-- two runs of an image have one task history, with as many calls, switches and other lines
+pub record AreToldAlike (image : ImageRecord) (a b : Run) : Type 0 where
+  pub one_history : history image a ≡ history image b
+  pub one_count : counts_of a.events ≡ counts_of b.events
+
+-- of a summary: the two runs that it sums up have one task history, and the numbers that it tells of their histories are equal
 abbrev pub SumsOneHistory : CaseCommand → ImageRecord → ListRecord → Type 0
-SumsOneHistory (Summary seed size) image l = history image (run_of Deferred image l (steps_for size)) ≡ history image (run_of Direct image l (steps_for size))
+SumsOneHistory (Summary seed size) image l = AreToldAlike image (run_of Deferred image l (steps_for size)) (run_of Direct image l (steps_for size))
 SumsOneHistory command image l = Unit {0}
 
--- the case is accepted, and its two runs have one task history
+-- the case is accepted, and its two runs have one task history, with equal numbers
 abbrev pub HasOneHistory : CaseCommand → Case → Type 0
 HasOneHistory command (Accepts image l) = SumsOneHistory command image l
 HasOneHistory command (Refuses line cause) = ⊥

@@ -7,13 +7,13 @@ ghost use Rattle.outside.specs.Causes.{HasCause, Rose};
 ghost use Rattle.outside.specs.Written.{AppendsPrefix, WritesPiece};
 ghost use Rattle.inject_list.specs.Lists.{ListRecord, IsValidList};
 ghost use Rattle.machine_model.specs.Machine.{start};
-ghost use Rattle.machine_model.specs.Run.{Run, history};
+ghost use Rattle.machine_model.specs.Run.{Run};
 ghost use Rattle.machine_model.specs.Premises.{premises, premise_line, premise_lines, is_broken};
 ghost use Rattle.program_model.specs.Both.{run_of, both_text, raw_line};
 ghost use Rattle.program_model.specs.Answer.{compared, compared_status};
 ghost use Rattle.program_model.specs.Limits.{most_task_steps};
 ghost use Rattle.ucos_top.specs.Answers.{IsToRun};
-ghost use Rattle.ucos_top.specs.Told.{IsRun, WritesOneHistory};
+ghost use Rattle.ucos_top.specs.Told.{IsRun, WritesOneHistory, AreToldAlike};
 
 use crate::history::write_history;
 use crate::machines::{ProgramMachine, load};
@@ -125,14 +125,15 @@ fn write_both<K: Sink>(
 }
 
 /// The law of the two methods for a case: where the run by the deferred method breaks no premise, its history is that of the
-/// direct run. An image is valid, and its numbers are words.
+/// direct run, and so both have the same counts. An image is valid, and its numbers are words.
 pub fn histories_agree(image: &Image, list: &InjectList, count: u32)
     requires { IsValidList image.now list.now }
     ensures { is_broken (run_of Deferred image.now list.now count) ≡ false
-        → history image.now (run_of Deferred image.now list.now count) ≡ history image.now (run_of Direct image.now list.now count) }
+        → AreToldAlike image.now (run_of Deferred image.now list.now count) (run_of Direct image.now list.now count) }
 {
     let _code = image.code();
     method_law::methods_agree();
+    history_counts::histories_tell_counts();
 }
 
 /// Runs a case by both methods to so many task steps. Both machines are made before the first write.

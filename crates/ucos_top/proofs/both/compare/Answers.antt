@@ -38,7 +38,7 @@ returns-in-Ok-false-clause-one_history g c =
     let held : is_broken (run_of Deferred image list c.args.count) ≡ false =
     sym (c.in-Ok-false.ensures.broken list c.in-Ok-load.ensures.start) ∙ c.in-Ok-false.field-0-test in
     λ done. one_history image (run_of Direct image list c.args.count) (run_of Deferred image list c.args.count) (g.K.Sink.held c.args.sink.now) (g.K.Sink.held c.write_both.new.sink) held
-    (c.histories_agree.ensures held) (c.in-Ok-false.ensures.bytes list c.in-Ok.ensures.start c.in-Ok-load.ensures.start)
+    (c.histories_agree.ensures held).one_history (c.in-Ok-false.ensures.bytes list c.in-Ok.ensures.start c.in-Ok-load.ensures.start)
 
 -- a prefix of them is written
 pub returns-in-Err-clause-write_fault_text : goal.returns-in-Err-clause-write_fault_text
