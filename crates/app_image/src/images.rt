@@ -65,8 +65,8 @@ fn are_words(words: &[u32])
     ensures { All IsWord words.now }
 {}
 
-// The kinds of the objects, in order.
-fn kinds_in(objects: &[ObjDef]) -> ArrayVec<Kind, 64>
+/// The kinds of at most 64 declared objects, in order.
+pub fn kinds_in(objects: &[ObjDef]) -> ArrayVec<Kind, 64>
     requires { length objects.now ≤ 64 }
     ensures kinds { result.items ≡ map (λ o. o.kind) objects.now }
     ensures fields { All HasWordFields objects.now }

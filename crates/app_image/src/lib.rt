@@ -17,7 +17,7 @@ mod writing;
 
 pub use causes::{ImageCause, ImageError};
 pub use checking::check;
-pub use images::{Image, RawImage};
+pub use images::{Image, RawImage, kinds_in};
 pub use names::Name;
 pub use naming::is_free_name;
 pub use parts::read_image;

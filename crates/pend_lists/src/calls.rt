@@ -36,7 +36,7 @@ impl<L: Links> PendLists<L> {
     {
         let after = self.search(obj, prio, prios);
         self.link_forward(node, after);
-        self.link_back(node, after);
+        self.link_back(node);
     }
 
     /// Takes a node out of the list in which it stands.

@@ -51,7 +51,7 @@ impl<L: Links> PendLists<L> {
     }
 
     /// Links a node, which was just linked forward, into the backward list too.
-    pub fn link_back(&mut self, node: u16, _after: u16)
+    pub fn link_back(&mut self, node: u16)
         requires node { node < 512 }
         requires half { IsHalfLinked self.old node }
         requires nowhere { total node self.old.back ≡ 0 }

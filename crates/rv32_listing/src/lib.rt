@@ -8,6 +8,7 @@ mod pieces;
 mod words;
 
 pub use listing::write_listing;
+pub use pieces::hex_digits;
 pub use words::line_of_word;
 
 #[cfg(test)]

@@ -162,8 +162,8 @@ pub fn push_hexadecimal(line: &mut Line, word: u32)
     push_bytes(line, &hex_digits(word));
 }
 
-// The eight hexadecimal digits of a word.
-fn hex_digits(word: u32) -> [u8; 8]
+/// The eight hexadecimal digits of a word, the highest first.
+pub fn hex_digits(word: u32) -> [u8; 8]
     ensures { result ≡ hex_word word }
 {
     [

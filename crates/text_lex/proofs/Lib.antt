@@ -5,3 +5,4 @@ pub mod Reading
 pub mod TokenFacts
 pub mod DivisionLaws
 pub mod Cases
+pub mod LineLaws

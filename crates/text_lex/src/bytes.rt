@@ -5,6 +5,7 @@ ghost use Rattle.std.specs.List.{list_all, prefix_len};
 ghost use Rattle.text_lex.specs.Bytes.{class_of, is_letter, is_digit, is_hex_digit, is_name, is_name_byte, is_not_line_feed};
 
 use crate::TokenKind;
+use memchr::memchr;
 
 /// What a byte begins where a piece of the text begins.
 #[derive(Clone, Copy, Debug, PartialEq, Eq)]
@@ -77,16 +78,15 @@ pub fn name_len(bytes: &[u8]) -> usize
 }
 
 /// How many bytes stand before the first line feed.
+#[tactic(auto, using(crate::proofs::LineLaws::no_line_feed, crate::proofs::LineLaws::first_line_feed))]
 pub fn line_len(bytes: &[u8]) -> usize
     ensures value { result ≡ prefix_len is_not_line_feed bytes.now }
     ensures within { result ≤ length bytes.now }
 {
-    for (i, byte) in bytes.iter().enumerate() {
-        if *byte == b'\n' {
-            return i;
-        }
+    match memchr(b'\n', bytes) {
+        Some(at) => at,
+        None => bytes.len(),
     }
-    bytes.len()
 }
 
 /// How many bytes at the front are decimal digits.

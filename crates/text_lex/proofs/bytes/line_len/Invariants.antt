@@ -1,8 +1,0 @@
-use Rattle.std.proofs.Common.{◌≡◌, ◌+◌, drop}
-use Rattle.std.specs.List.{prefix_len}
-use Rattle.text_lex.specs.Bytes.{is_not_line_feed}
-use Rattle.text_lex.proofs.bytes.line_len.Given as goal
-
--- the bytes so far pass, and the rest is counted from here
-abbrev pub invariant-loop-i : goal.invariant-loop-i
-invariant-loop-i l = l.i + prefix_len is_not_line_feed (drop l.i l.bytes) ≡ prefix_len is_not_line_feed l.bytes
