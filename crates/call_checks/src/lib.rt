@@ -8,7 +8,7 @@ mod rules;
 
 pub use existence::{existence_refusal, named_task};
 pub use refusals::{Moment, argument_refusal, call_refusal, moment_refusal, table_refusal};
-pub use rules::{Options, Target, interrupt_error, is_post, options_of, target_of};
+pub use rules::{Options, Target, interrupt_error, is_post, is_served, options_of, target_of};
 
 #[cfg(test)]
 mod tests;

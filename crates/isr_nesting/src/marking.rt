@@ -2,11 +2,12 @@
 
 ghost use Rattle.std.specs.Prelude.{◌≡◌, ◌==◌, ◌||◌, ℕ, Bool, false, option_map};
 ghost use Rattle.std.specs.List.{list_any};
-ghost use Rattle.kern_model.specs.Services.{program_serves};
+ghost use Rattle.kern_model.specs.Served.{program_serves};
 ghost use Rattle.isr_nesting.specs.FrameView.{mark_list};
 ghost use Rattle.rv32_isa.specs.Operands.{reads, writes};
 ghost use Rattle.machine_model.specs.Marks.{is_marked, call_reads, instruction_reads, marks_after, reads_of};
 
+use call_checks::is_served;
 use kern_base::Service;
 use rv32_exec::Regs;
 use rv32_isa::Instr;
@@ -30,15 +31,12 @@ fn has_mark(marks: u8, register: u8) -> bool
     }
 }
 
-// Whether the call of a service reads a marked register: the two services each have at least two
+// Whether the call of a service reads a marked register: each service that is served has at least two
 // arguments.
 fn call_reads_mark(marks: u8, service: Service) -> bool
     ensures { result ≡ is_marked (mark_list marks) (call_reads program_serves service) }
 {
-    match service {
-        Service::SemPost | Service::SemPend => has_mark(marks, 10) || has_mark(marks, 11),
-        _ => false,
-    }
+    is_served(service) && (has_mark(marks, 10) || has_mark(marks, 11))
 }
 
 // Whether an instruction other than ECALL reads a marked register.

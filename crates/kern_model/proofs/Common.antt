@@ -21,7 +21,7 @@ pub use Rattle.kern_model.specs.Checks.{argument, call_error, existence_error, f
 pub use Rattle.kern_model.specs.Effect.{Effect, Wait, and_then, answer, answered_task, answers, block_blocks, blocked, blocks_on, chosen, done, fine, joined, leave_blocks, left_all, message, multi_result, new_match, plain_result, posted_result, posted_to, ready_blocks, refused, result_of, stands_in, waits_unless, unmatched, wait_blocks, waited, waiting_task, waits_for, wake_blocks, wake_cost, wakes, wakes_all, wakes_blocks, wakes_cost, woken, woken_ready}
 pub use Rattle.kern_model.specs.Inherit.{inherited, least_of, living, move_blocks, moved, moved_all, moved_ready, moves_blocks, moves_of, numbers, owner_for, owner_in, reaches, reaches_by, ready_move_blocks, renew_blocks, renewed, renewed_tasks, renewing, rewait_blocks, rewaited, waited_objects, waits_on, with_prio}
 pub use Rattle.kern_model.specs.Micro.{Block, Halves, JoinBack, JoinForward, LeaveBack, LeaveForward, Lists, Mark, Micro, Pend, Plain, after, at_chain, at_head, at_tail, changed, changed_all, in_order, is_filled, join_place, leave, lists_of, plain, readied, readied_at, unready, wait, wait_place, whole, whole_step}
-pub use Rattle.kern_model.specs.Services.{after_checks, blocks, content_for, effect, half, post_request, posted, program_serves, renews, perform, serves_all, unit_effect}
+pub use Rattle.kern_model.specs.Services.{after_checks, blocks, content_for, effect, half, post_request, posted, renews, perform, serves_all, unit_effect}
 unfoldable pub use Rattle.kern_model.specs.Services.{cost}
 pub use Rattle.kern_model.specs.State.{Bits, Completed, Content, Count, Held, Kernel, Messages, Object, Running, Settings, Stopped, Task, Timed, Timer, TimerState, count_of, idle_task, is_ready, is_zero, kind_of, kinds_of, list_at, no_object, no_task, object_at, pick, place_of, prio_of, task_at, tick_task, timer_task, update_list, update_object, update_task, waits_for_nothing, with_content, with_task, without}
 pub use Rattle.kern_model.specs.Valid.{AllWait, AreObjects, AreResults, AreWaits, IsAboveIdle, IsContent, IsInherited, IsLinked, IsRequest, IsTask, IsValid, IsWord, MayCall, MayOwn, has_result, matched, one_if}

@@ -86,12 +86,6 @@ abbrev pub serves_all : Service → Bool
 serves_all (Unknown number) = false
 serves_all _ = true
 
--- the services that this program serves
-abbrev pub program_serves : Service → Bool
-program_serves SemPost = true
-program_serves SemPend = true
-program_serves _ = false
-
 -- a post as a request
 abbrev pub post_request : Service → List ℕ → Request
 post_request s args = record { service = s; args = args; ids = replicate 8 0; n_ids = 0; table = false }

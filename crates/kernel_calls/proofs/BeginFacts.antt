@@ -1,42 +1,58 @@
 -- A whole step that begins: what was decided of a call is planned, and its first micro-step is in hand.
-use Rattle.std.proofs.Common.{◌≡◌, ℕ, ◌<◌, List, [], ◌∷◌, ◌++◌, length, refl, sym, ap, ◌∙◌, subst, false, arith}
+use Rattle.std.proofs.Common.{◌≡◌, ℕ, ◌<◌, ◌+◌, ◌*◌, ◌/◌, List, [], ◌∷◌, ◌++◌, length, refl, sym, ap, ◌∙◌, subst, true, false, arith}
 use Rattle.std.specs.Prelude.{◌==◌}
+use Rattle.std.proofs.lemmas.Bool.{false≢true}
 use Rattle.kern_base.specs.Services.{is_post}
 use Rattle.kern_base.specs.declared.numbers.Prio.{Prio}
-use Rattle.kern_base.specs.declared.services.Service.TheVariants.{SemPost, SemPend}
+use Rattle.kern_base.specs.declared.services.Service.{Service}
+use Rattle.kern_base.specs.declared.services.Service.TheVariants.{SemPend, QPend, FlagPend, TaskSemPend, TaskQPend, FlagPost}
+use Rattle.kern_base.specs.declared.outcomes.Answer.{Answer}
 use Rattle.kern_base.specs.declared.outcomes.Around.{Around}
 use Rattle.kern_base.specs.declared.outcomes.Decision.{Decision}
 use Rattle.kern_base.specs.declared.outcomes.Decision.TheVariants.{Done, Block, Wake}
 use Rattle.kern_base.specs.declared.outcomes.Who.TheVariants.{First, All as Every, Matching}
-use Rattle.kern_model.specs.State.{Kernel, list_at}
+use Rattle.kern_model.specs.State.{Kernel, Task, place_of}
 use Rattle.kern_model.specs.Micro.{Halves, Lists, Micro, in_order, lists_of, plain, whole}
-use Rattle.kern_model.specs.Checks.{argument}
 use Rattle.kern_model.specs.Effect.{Effect, blocks_on, chosen}
 use Rattle.kern_model.specs.Services.{blocks, content_for, cost}
 use Rattle.kern_model.specs.Valid.{AllWait, IsLinked}
-use Rattle.kern_model.proofs.Lemmas.{AllWait-chosen, AllWait-pend, caller_ready, equal, not_false}
+use Rattle.kern_model.proofs.Lemmas.{AllWait-chosen, caller_ready, equal, not_false}
 use Rattle.micro_steps.specs.declared.link.Link.{Link}
 use Rattle.micro_steps.specs.declared.link.Link.TheVariants as link
 use Rattle.micro_steps.specs.Halfway.{seen as nodes_seen}
 use Rattle.micro_steps.specs.Whole.{AreFit, IsMidway, IsPaused, StepsRecord, lists_after, task_blocks}
 use Rattle.link_plans.specs.Fits.{AreKernels, IsNoded}
-use Rattle.link_plans.specs.Plans.{block_links, links_left, wakes_links}
+use Rattle.link_plans.specs.Plans.{block_links, links_left, matching_links, wakes_links}
 use Rattle.link_plans.specs.declared.plan.Plan.{Plan}
 use Rattle.link_plans.proofs.Past.{links_keep}
 use Rattle.decisions.specs.Around.{IsAround}
-use Rattle.decisions.specs.Decided.{decided, ends_waits, wait_of}
-use Rattle.kernel_records.specs.Deciding.{IsServedDecision, decision_of, own_change}
+use Rattle.decisions.specs.Decided.{bits_in, decided, ends_waits, wait_of, wakes_matching}
+use Rattle.kernel_records.specs.Deciding.{IsServedDecision, decision_of, own_change, waiters_of}
 use Rattle.kernel_records.specs.Concluding.{objects_waited, woken_of}
-use Rattle.kernel_records.proofs.ConcludingFacts.{plain-wait, plain-wake}
-use Rattle.kernel_records.proofs.DecidingFacts.{acting, acting-inside, own-none, unlocked-by}
+use Rattle.kernel_records.specs.Served.{is_served_wait}
+use Rattle.kernel_records.proofs.ConcludingFacts.{all-posts, plain-flags, plain-wait, plain-wake}
+use Rattle.kernel_records.proofs.RowFacts.{own-block, own-wake}
 use Rattle.kernel_calls.specs.Works.{MayBegin, WorkRecord, effect_of}
-use Rattle.kernel_calls.specs.Stepping.{AreNodes, HasPrios, IsInHand, IsPast, IsPlanned, IsResting, prios_over}
+use Rattle.kernel_calls.specs.Stepping.{AreNodes, HasPrios, IsInHand, IsPast, IsPlanned, IsResting, planned_bits, prios_over}
 use Rattle.kernel_calls.specs.KernelView.{state_with}
 use Rattle.kernel_calls.proofs.StepFacts.{below-cost, may-call}
 use Rattle.kernel_calls.proofs.EndFacts.{objects-kept}
 use Rattle.kernel_calls.proofs.LinkFacts.{blocks-end, fit-end, links-fresh, links_of, lists-end, prios-end}
 use Rattle.kernel_calls.proofs.WakeCase.{wake-blocks, wake-fits, wake-nodes, wake-prios}
 use Rattle.kernel_calls.proofs.BlockCase.{block-blocks, block-fits, block-nodes, block-prios}
+use Rattle.kernel_calls.proofs.FlagCase.{flags-blocks, flags-fit, flags-nodes, flags-prios}
+use Rattle.kernel_calls.proofs.OwnChanges.{beside, free_posted, objects_posted, own-flags, own-keeps}
+use Rattle.kernel_records.proofs.WaitFacts.{unlocked, waited-objects}
+use Rattle.kernel_calls.proofs.WaiterFacts.{AllWait-waiters}
+
+-- a wait is no post
+wait-posts : (s : Service) → is_served_wait s ≡ true → is_post s ≡ false
+wait-posts SemPend h = refl
+wait-posts QPend h = refl
+wait-posts FlagPend h = refl
+wait-posts TaskSemPend h = refl
+wait-posts TaskQPend h = refl
+wait-posts _ h = absurd (false≢true h)
 
 -- The links of an effect on these lists of nodes: they fit, they are its blocks, and their nodes and priorities are those after it.
 pub record AreLinksOf (e : Effect) (n : ℕ) (prios : List Prio) (ks : List Link) (l : Lists) : Type 0 where
@@ -46,36 +62,35 @@ pub record AreLinksOf (e : Effect) (n : ℕ) (prios : List Prio) (ks : List Link
   pub listed : HasPrios e.kernel (prios_over ks prios)
 
 module _ (w : WorkRecord) (q : Plan) (around : Around) (k : Kernel) (l : Lists) (prios : List Prio) where
-  abbrev o : ℕ
-  o = argument w.request 0
+  -- who waits for what the call is about
+  abbrev ws : List ℕ
+  ws = waiters_of w.request w.caller k
 
   -- a decision's effect
   abbrev what : Decision → Effect
-  what d = decided d w.request.service w.request w.caller w.compared (list_at k.pend o) (own_change w.request d k)
+  what d = decided d w.request.service w.request w.caller w.compared ws (own_change w.request w.caller d k)
 
-  module _ (v : IsLinked k) (a : AreKernels k l) (p : HasPrios k prios) (may : MayBegin w.caller w.request k) (seen : IsAround around (list_at k.pend o) k) (caller : q.caller.0 ≡ w.caller) (compared : q.compared.0 ≡ w.compared) where
-    links-block : Block ≡ decision_of w.request around k → w.request.service ≡ SemPend → q.objects.items ≡ objects_waited Block w.request → AreLinksOf (what Block) (length k.objects) prios (links_of Block k.tasks q) l
+  module _ (v : IsLinked k) (a : AreKernels k l) (p : HasPrios k prios) (may : MayBegin w.caller w.request k) (seen : IsAround around ws k) (caller : q.caller.0 ≡ w.caller) (compared : q.compared.0 ≡ w.compared) where
+    links-block : Block ≡ decision_of w.request around k → is_served_wait w.request.service ≡ true → q.objects.items ≡ objects_waited Block w.request → AreLinksOf (what Block) (length k.objects) prios (links_of Block k.tasks q) l
     links-block e s os =
-        let it = acting w.request around Block k e refl in
-        let lock = equal k.lock 0 (not_false (k.lock == 0) (sym seen.locked ∙ unlocked-by (content_for w.request k) w.request around s (sym it.decided))) in
-        let ready = caller_ready k v w.caller (may-call w k may (ap is_post s)) lock in
-        let inside = acting-inside w.request around Block k e refl in
+        let lock = equal k.lock 0 (not_false (k.lock == 0) (sym seen.locked ∙ unlocked w.request around k e s)) in
+        let ready = caller_ready k v w.caller (may-call w k may (wait-posts w.request.service s)) lock in
         let wait = wait_of w.request.service w.request in
-        let one : wait.objects ≡ o ∷ [] = ap (λ u. (wait_of u w.request).objects) s in
-        let made : what Block ≡ blocks_on k w.caller wait = plain-wait w.request.service _ s ∙ ap (λ j. blocks_on j w.caller wait) (own-none w.request Block k refl) in
-        let links : links_of Block k.tasks q ≡ block_links k.tasks w.caller (o ∷ []) = ap (λ x. block_links k.tasks x q.objects.items) caller ∙ ap (block_links k.tasks w.caller) (os ∙ one) in
-        let all : AreLinksOf (blocks_on k w.caller wait) (length k.objects) prios (block_links k.tasks w.caller (o ∷ [])) l =
+        let objects = waited-objects w.request around k e s in
+        let made : what Block ≡ blocks_on k w.caller wait = plain-wait w.request.service _ s ∙ ap (λ j. blocks_on j w.caller wait) (own-block w.request w.caller k s) in
+        let links : links_of Block k.tasks q ≡ block_links k.tasks w.caller wait.objects = ap (λ x. block_links k.tasks x q.objects.items) caller ∙ ap (block_links k.tasks w.caller) os in
+        let all : AreLinksOf (blocks_on k w.caller wait) (length k.objects) prios (block_links k.tasks w.caller wait.objects) l =
         record {
-          fits = block-fits w.caller o wait k l prios v a p ready.0 ready.1 inside one;
-          blocks = block-blocks w.caller o wait k l prios v a p ready.0 ready.1 inside one;
-          noded = block-nodes w.caller o wait k l prios v a p ready.0 ready.1 inside one;
-          listed = block-prios w.caller o wait k l prios v a p ready.0 ready.1 inside one;
+          fits = block-fits w.caller wait k l prios v a p ready.0 ready.1 objects;
+          blocks = block-blocks w.caller wait k l prios v a p ready.0 ready.1 objects;
+          noded = block-nodes w.caller wait k l prios v a p ready.0 ready.1 objects;
+          listed = block-prios w.caller wait k l prios v a p ready.0 ready.1 objects;
         } in
         subst (λ f. AreLinksOf f (length k.objects) prios (links_of Block k.tasks q) l) (sym made) (subst (λ ks. AreLinksOf (blocks_on k w.caller wait) (length k.objects) prios ks l) (sym links) all)
 
-    links-wake : (xs : List ℕ) (f : Effect) → AllWait k xs → w.request.service ≡ SemPost → q.woken.items ≡ xs → f ≡ ends_waits w.request.service w.request w.compared xs k → AreLinksOf f (length k.objects) prios (wakes_links k.tasks q.compared.0 q.woken.items) l
-    links-wake xs f wait s ws made =
-        let links : wakes_links k.tasks q.compared.0 q.woken.items ≡ wakes_links k.tasks w.compared xs = ap (λ h. wakes_links k.tasks h q.woken.items) compared ∙ ap (wakes_links k.tasks w.compared) ws in
+    links-wake : (xs : List ℕ) (f : Effect) → AllWait k xs → q.woken.items ≡ xs → f ≡ ends_waits w.request.service w.request w.compared xs k → AreLinksOf f (length k.objects) prios (wakes_links k.tasks q.compared.0 q.woken.items) l
+    links-wake xs f wait is made =
+        let links : wakes_links k.tasks q.compared.0 q.woken.items ≡ wakes_links k.tasks w.compared xs = ap (λ h. wakes_links k.tasks h q.woken.items) compared ∙ ap (wakes_links k.tasks w.compared) is in
         let all : AreLinksOf (ends_waits w.request.service w.request w.compared xs k) (length k.objects) prios (wakes_links k.tasks w.compared xs) l =
         record {
           fits = wake-fits w.request w.compared xs k l prios v a wait;
@@ -85,16 +100,47 @@ module _ (w : WorkRecord) (q : Plan) (around : Around) (k : Kernel) (l : Lists) 
         } in
         subst (λ e. AreLinksOf e (length k.objects) prios (wakes_links k.tasks q.compared.0 q.woken.items) l) (sym made) (subst (λ ks. AreLinksOf (ends_waits w.request.service w.request w.compared xs k) (length k.objects) prios ks l) (sym links) all)
 
-    pub links-decided : (d : Decision) → d ≡ decision_of w.request around k → IsServedDecision d w.request.service → q.objects.items ≡ objects_waited d w.request → q.woken.items ≡ woken_of d (list_at k.pend o) → AreLinksOf (what d) (length k.objects) prios (links_of d k.tasks q) l
-    links-decided (Done b) e s os ws = record { fits = tt; blocks = refl; noded = a.noded; listed = p }
-    links-decided Block e s os ws = links-block e s os
-    links-decided (Wake First) e s os ws =
-        links-wake (chosen false (list_at k.pend o)) (what (Wake First)) (AllWait-chosen k false (list_at k.pend o) (AllWait-pend k v o)) s ws
-        (plain-wake w.request.service _ _ s ∙ ap (ends_waits w.request.service w.request w.compared (chosen false (list_at k.pend o))) (own-none w.request (Wake First) k refl))
-    links-decided (Wake Every) e s os ws =
-        links-wake (list_at k.pend o) (what (Wake Every)) (AllWait-pend k v o) s ws
-        (plain-wake w.request.service _ _ s ∙ ap (ends_waits w.request.service w.request w.compared (list_at k.pend o)) (own-none w.request (Wake Every) k refl))
-    links-decided (Wake Matching) e s os ws = absurd s
+    links-flags : w.request.service ≡ FlagPost → q.woken.items ≡ ws → q.bits ≡ planned_bits (Wake Matching) w.request w.caller k → AreLinksOf (what (Wake Matching)) (length k.objects) prios (matching_links k.tasks q.bits q.compared.0 q.woken.items) l
+    links-flags s is same =
+        let os = objects_posted w.request k in
+        let free = free_posted w.request k in
+        let own = own-flags w.request w.caller k s in
+        let bits = bits_in (content_for w.request (beside k os free)) in
+        let made : what (Wake Matching) ≡ wakes_matching bits w.compared ws (beside k os free) =
+        plain-flags w.request.service _ _ s ∙ ap (λ (j : Kernel). wakes_matching (bits_in (content_for w.request j)) w.compared ws j) own in
+        let links : matching_links k.tasks q.bits q.compared.0 q.woken.items ≡ matching_links k.tasks bits w.compared ws =
+        ap (λ b. matching_links k.tasks b q.compared.0 q.woken.items) (same ∙ ap (λ (j : Kernel). bits_in (content_for w.request j)) own)
+        ∙ ap (λ h. matching_links k.tasks bits h q.woken.items) compared ∙ ap (matching_links k.tasks bits w.compared) is in
+        let wait = AllWait-waiters w.request w.caller k v in
+        let all : AreLinksOf (wakes_matching bits w.compared ws (beside k os free)) (length k.objects) prios (matching_links k.tasks bits w.compared ws) l =
+        record {
+          fits = flags-fit bits w.compared ws k l prios v a wait;
+          blocks = flags-blocks bits w.compared ws k l prios v a wait os free;
+          noded = flags-nodes bits w.compared ws k l prios v a wait os free;
+          listed = flags-prios bits w.compared ws k l prios v a wait os free p;
+        } in
+        subst (λ e. AreLinksOf e (length k.objects) prios (matching_links k.tasks q.bits q.compared.0 q.woken.items) l) (sym made) (subst (λ ks. AreLinksOf (wakes_matching bits w.compared ws (beside k os free)) (length k.objects) prios ks l) (sym links) all)
+
+    -- a call that wakes nobody leaves the nodes and the priorities of all tasks
+    links-done : (b : Answer) → AreLinksOf (what (Done b)) (length k.objects) prios [] l
+    links-done b =
+        record {
+          fits = tt;
+          blocks = refl;
+          noded = λ o n h. a.noded o n h ∙ ap (λ os. 8 * (n / 8) + place_of o os) (sym (own-keeps (λ (t : Task). t.objects) (λ t m ms. refl) w.request w.caller (Done b) k (n / 8)));
+          listed = λ y. p y ∙ sym (own-keeps (λ (t : Task). t.prio) (λ t m ms. refl) w.request w.caller (Done b) k y);
+        }
+
+    pub links-decided : (d : Decision) → d ≡ decision_of w.request around k → IsServedDecision d w.request.service → q.objects.items ≡ objects_waited d w.request → q.woken.items ≡ woken_of d ws → q.bits ≡ planned_bits d w.request w.caller k → AreLinksOf (what d) (length k.objects) prios (links_of d k.tasks q) l
+    links-decided (Done b) e s os is bits = links-done b
+    links-decided Block e s os is bits = links-block e s os
+    links-decided (Wake First) e s os is bits =
+        links-wake (chosen false ws) (what (Wake First)) (AllWait-chosen k false ws (AllWait-waiters w.request w.caller k v)) is
+        (plain-wake w.request.service _ _ s ∙ ap (ends_waits w.request.service w.request w.compared (chosen false ws)) (own-wake First w.request w.caller k s))
+    links-decided (Wake Every) e s os is bits =
+        links-wake ws (what (Wake Every)) (AllWait-waiters w.request w.caller k v) is
+        (plain-wake w.request.service _ _ (all-posts w.request.service s) ∙ ap (ends_waits w.request.service w.request w.compared ws) (own-wake Every w.request w.caller k (all-posts w.request.service s)))
+    links-decided (Wake Matching) e s os is bits = links-flags s is bits
 
 -- a step begins with micro-steps
 pub some-steps : (e : Effect) (k : Kernel) → 0 < cost e k
@@ -111,7 +157,7 @@ begun-hand w q around rs s t v nodes rest caller done may plan task made ended t
     let body = links_of q.decision k.tasks q in
     let all : AreLinksOf e (length k.objects) s.prios body s.start =
     subst (λ f. AreLinksOf f (length k.objects) s.prios body s.start) (sym plan.effect)
-    (links-decided w q around k s.start s.prios v m rest.prios may plan.around plan.caller plan.compared q.decision plan.decision plan.served plan.objects plan.woken) in
+    (links-decided w q around k s.start s.prios v m rest.prios may plan.around plan.caller plan.compared q.decision plan.decision plan.served plan.objects plan.woken plan.bits) in
     let links : links_left k.tasks q ≡ body ++ link.Plain ∷ [] = links-fresh k.tasks q task made ended in
     let end = lists_after s.prios body s.start in
     let same : nodes_seen (length (lists_of k).pend) s.halves ≡ whole (lists_of k) =

@@ -1,31 +1,27 @@
--- The plan of a call in which the caller waits for one object.
-use Rattle.std.proofs.Common.{◌≡◌, ℕ, ◌<◌, ◌≤◌, ◌+◌, List, [], ◌∷◌, length, refl, sym, ap, ◌∙◌, inl, inr, arith}
-use Rattle.std.specs.Prelude.{if◌then◌else◌, ◌==◌, Bool, true, false}
+-- The plan of a call in which the caller waits.
+use Rattle.std.proofs.Common.{◌≡◌, ℕ, ◌<◌, ◌≤◌, List, length, refl, sym, ap, ◌∙◌, inl, inr, true, arith}
 use Rattle.std.proofs.lemmas.Bool.{true≢false}
 use Rattle.std.proofs.lemmas.Bool.Decides.{leb_tells}
 use Rattle.std.proofs.lemmas.List.{get_or_past}
-use Rattle.std.proofs.lemmas.List.Elements.{All-nil, All-cons}
 use Rattle.kern_base.specs.declared.numbers.Prio.{Prio}
 use Rattle.kern_model.specs.State.{Kernel, Task, is_ready, prio_of, task_at}
 use Rattle.kern_model.specs.Micro.{Lists}
 use Rattle.kern_model.specs.Effect.{Wait, block_blocks, blocked, waiting_task}
 use Rattle.kern_model.specs.Valid.{IsLinked}
 use Rattle.kern_model.proofs.Lemmas.{and_first, task-other, task-updated, update_task_same}
-use Rattle.micro_steps.specs.Blocks.{no_prio}
+use Rattle.micro_steps.specs.Blocks.{no_prio, prio_in}
 use Rattle.micro_steps.specs.Whole.{AreFit, lists_after, task_blocks}
 use Rattle.link_plans.specs.Fits.{AreKernels, IsNoded}
 use Rattle.link_plans.specs.Plans.{block_links}
 use Rattle.link_plans.proofs.BlockFits.{block_fits}
+use Rattle.link_plans.proofs.Follows.{block_keeps_prios}
 use Rattle.link_plans.proofs.NodeKeeps.{block_keeps}
 use Rattle.link_plans.proofs.Rows.{block-row}
 use Rattle.kernel_calls.specs.Stepping.{HasPrios, prios_over}
-use Rattle.kernel_calls.proofs.LinkFacts.{prios-wait}
+use Rattle.kernel_calls.proofs.LinkFacts.{over-past}
+use Rattle.kernel_records.proofs.WaitFacts.{AreObjects}
 
-once-one : (b : Bool) → (if b then 1 else 0) + 0 ≤ 1
-once-one true = omega arith
-once-one false = omega arith
-
-module _ (x o : ℕ) (wait : Wait) (k : Kernel) (l : Lists) (prios : List Prio) (v : IsLinked k) (a : AreKernels k l) (p : HasPrios k prios) (application : x < 60) (ready : is_ready (task_at k x) ≡ true) (inside : o < length k.objects) (one : wait.objects ≡ o ∷ []) where
+module _ (x : ℕ) (wait : Wait) (k : Kernel) (l : Lists) (prios : List Prio) (v : IsLinked k) (a : AreKernels k l) (p : HasPrios k prios) (application : x < 60) (ready : is_ready (task_at k x) ≡ true) (objects : AreObjects (length k.objects) wait.objects) where
   -- the caller's priority is above the idle task's
   declared : x < k.settings.tasks
   declared =
@@ -44,22 +40,23 @@ module _ (x o : ℕ) (wait : Wait) (k : Kernel) (l : Lists) (prios : List Prio) 
         | inr d ↦ d.1
       ]
 
-  pub block-fits : AreFit (length k.objects) prios (block_links k.tasks x (o ∷ [])) l
-  block-fits =
-      block_fits prios k x (o ∷ []) l v a (omega arith) ready
-      (All-cons (λ i. i < length k.objects) o [] inside (All-nil (λ i. i < length k.objects))) (λ i. once-one (o == i)) (omega arith)
+  pub block-fits : AreFit (length k.objects) prios (block_links k.tasks x wait.objects) l
+  block-fits = block_fits prios k x wait.objects l v a (omega arith) ready objects.inside objects.once objects.few
 
-  pub block-blocks : task_blocks prios (block_links k.tasks x (o ∷ [])) ≡ block_blocks k x wait.objects
-  block-blocks = block-row prios k x (o ∷ []) p in-table (omega arith) ∙ ap (block_blocks k x) (sym one)
+  pub block-blocks : task_blocks prios (block_links k.tasks x wait.objects) ≡ block_blocks k x wait.objects
+  block-blocks = block-row prios k x wait.objects p in-table objects.few
 
   inside-tasks : x < length k.tasks
   inside-tasks = let many = v.sizes.tasks in omega arith
 
-  pub block-nodes : IsNoded (blocked k x wait).tasks (lists_after prios (block_links k.tasks x (o ∷ [])) l).pend
+  pub block-nodes : IsNoded (blocked k x wait).tasks (lists_after prios (block_links k.tasks x wait.objects) l).pend
   block-nodes =
-      block_keeps prios k (blocked k x wait).tasks x (o ∷ []) l v a ready (λ i. once-one (o == i)) (omega arith)
-      (ap (λ (t : Task). t.objects) (task-updated k.tasks x (waiting_task wait) inside-tasks) ∙ one)
+      block_keeps prios k (blocked k x wait).tasks x wait.objects l v a ready objects.once objects.few
+      (ap (λ (t : Task). t.objects) (task-updated k.tasks x (waiting_task wait) inside-tasks))
       (λ y d. ap (λ (t : Task). t.objects) (task-other k.tasks x (waiting_task wait) y (λ e. d (sym e))))
 
-  pub block-prios : HasPrios (blocked k x wait) (prios_over (block_links k.tasks x (o ∷ [])) prios)
-  block-prios = λ y. prios-wait k x (prio_of k x) prios p refl in-table y ∙ sym (update_task_same (λ t. t.prio) (waiting_task wait) (λ t. refl) k.tasks x y)
+  pub block-prios : HasPrios (blocked k x wait) (prios_over (block_links k.tasks x wait.objects) prios)
+  block-prios = λ y.
+      ap (λ ps. prio_in ps y) (over-past (block_links k.tasks x wait.objects) prios)
+      ∙ block_keeps_prios prios k.tasks x wait.objects in-table objects.few (p x) y
+      ∙ p y ∙ sym (update_task_same (λ t. t.prio) (waiting_task wait) (λ t. refl) k.tasks x y)

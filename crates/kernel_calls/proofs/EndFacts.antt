@@ -5,14 +5,14 @@ use Rattle.kern_base.specs.Tables.{KindTable}
 use Rattle.kern_base.specs.declared.requests.Request.{Request}
 use Rattle.kern_base.specs.declared.outcomes.Decision.{Decision}
 use Rattle.kern_base.specs.declared.kinds.Kind.{Kind}
-use Rattle.kern_model.specs.State.{Kernel, Object, kind_of, list_at}
+use Rattle.kern_model.specs.State.{Kernel, Object, kind_of}
 use Rattle.kern_model.specs.Micro.{Halves, Lists, is_filled, lists_of, whole}
 use Rattle.kern_model.specs.Call.{call_of}
-use Rattle.kern_model.specs.Checks.{argument}
 use Rattle.kern_model.specs.Effect.{Effect}
-use Rattle.kern_model.specs.Services.{blocks, cost, half, program_serves}
+use Rattle.kern_model.specs.Served.{program_serves}
+use Rattle.kern_model.specs.Services.{blocks, content_for, cost, half}
 use Rattle.kern_model.specs.Valid.{IsLinked}
-use Rattle.kern_model.proofs.Lemmas.{AllWait-pend, linked-effect}
+use Rattle.kern_model.proofs.Lemmas.{linked-effect}
 use Rattle.kern_model.proofs.Halves.Services.{half-effect}
 use Rattle.kern_laws.proofs.ObjectKinds.Calls.{kinds-effect}
 use Rattle.std.proofs.lemmas.List.{length-map}
@@ -21,14 +21,17 @@ use Rattle.micro_steps.specs.Whole.{IsPaused, StepsRecord}
 use Rattle.link_plans.specs.Plans.{links_left}
 use Rattle.link_plans.specs.declared.plan.Plan.{Plan}
 use Rattle.kernel_records.specs.RecordsRecord.{RecordsRecord, with_lists, without_lists}
-use Rattle.kernel_records.specs.Concluding.{concluded, outcome_of, woken_of}
+use Rattle.decisions.specs.Decided.{bits_in}
+use Rattle.kernel_records.specs.Deciding.{waiters_of}
+use Rattle.kernel_records.specs.Concluding.{bits_left, concluded, outcome_of, woken_of}
 use Rattle.kernel_records.specs.Served.{IsServed}
-use Rattle.kernel_records.proofs.ConcludingFacts.{concluded-bare, has-outcome, is-concluded}
+use Rattle.kernel_records.proofs.ConcludingFacts.{concluded-bare, has-outcome, is-concluded, own-bare}
 use Rattle.kernel_calls.specs.Works.{WorkRecord, effect_of}
 use Rattle.kernel_calls.specs.Stepping.{AreNodes, HasPrios, IsInHand, IsResting, prios_over}
 use Rattle.kernel_calls.specs.KernelView.{IsSound, state_with}
 use Rattle.kernel_calls.proofs.ServedFacts.{served-decided}
 use Rattle.kernel_calls.proofs.StepFacts.{cost-below, may-call, none-left}
+use Rattle.kernel_calls.proofs.WaiterFacts.{AllWait-waiters}
 
 -- no call makes or loses an object
 pub objects-kept : (w : WorkRecord) (k : Kernel) → length (effect_of w k).kernel.objects ≡ length k.objects
@@ -75,7 +78,7 @@ module _ (w : WorkRecord) (q : Plan) (around : Around) (rs : Kernel) (start : Li
     pub served-made : IsServed made.kernel
     served-made =
         subst (λ (e : Effect). IsServed e.kernel) (sym h.planned.effect)
-        (served-decided q.decision w.request w.caller w.compared (list_at before.pend (argument w.request 0)) before h.planned.served (AllWait-pend before v (argument w.request 0)) sv)
+        (served-decided q.decision w.request w.caller w.compared (waiters_of w.request w.caller before) before h.planned.served (AllWait-waiters w.request w.caller before v) sv)
 
     lists-made : seen (length before.pend) s.halves ≡ whole (lists_of made.kernel)
     lists-made =
@@ -97,21 +100,27 @@ module _ (w : WorkRecord) (q : Plan) (around : Around) (rs : Kernel) (start : Li
     pub prios-made : s.prios ≡ s0.prios → HasPrios made.kernel s.prios
     prios-made e = subst (HasPrios made.kernel) (sym e) (subst (λ ks. HasPrios made.kernel (prios_over ks s0.prios)) none h.prios)
 
-    pub records-made : concluded q.decision w.request w.caller (woken_of q.decision (list_at before.pend (argument w.request 0))) (without_lists rs) ≡ without_lists made.kernel
+    pub records-made : concluded q.decision w.request w.caller (woken_of q.decision (waiters_of w.request w.caller before)) (without_lists rs) ≡ without_lists made.kernel
     records-made =
-        sym (is-concluded q.decision w.request w.caller w.compared (list_at before.pend (argument w.request 0)) before h.planned.served)
+        sym (is-concluded q.decision w.request w.caller w.compared (waiters_of w.request w.caller before) before h.planned.served)
         ∙ ap (λ (e : Effect). without_lists e.kernel) (sym h.planned.effect)
 
     -- what the records and the chains then are
-    pub state-made : (rs' : Kernel) → rs' ≡ concluded q.decision w.request w.caller (woken_of q.decision (list_at before.pend (argument w.request 0))) rs → state_with rs' s.halves.forward ≡ made.kernel
+    pub state-made : (rs' : Kernel) → rs' ≡ concluded q.decision w.request w.caller (woken_of q.decision (waiters_of w.request w.caller before)) rs → state_with rs' s.halves.forward ≡ made.kernel
     state-made rs' e =
         made-of rs' made.kernel s.halves.forward
-        (ap without_lists e ∙ concluded-bare q.decision w.request w.caller (woken_of q.decision (list_at before.pend (argument w.request 0))) rs ∙ records-made)
+        (ap without_lists e ∙ concluded-bare q.decision w.request w.caller (woken_of q.decision (waiters_of w.request w.caller before)) rs ∙ records-made)
         (ap (λ n. seen_lists n s.halves.forward) (sym objects-made) ∙ forward-made)
 
-    pub outcome-made : outcome_of q.decision w.request.service (length (woken_of q.decision (list_at before.pend (argument w.request 0)))) ≡ made.outcome
+    bits-made : bits_left w.request w.caller q.decision rs ≡ bits_left w.request w.caller q.decision before
+    bits-made =
+        ap (λ (j : Kernel). bits_in (content_for w.request j)) (own-bare w.request w.caller q.decision rs)
+        ∙ sym (ap (λ (j : Kernel). bits_in (content_for w.request j)) (own-bare w.request w.caller q.decision before))
+
+    pub outcome-made : outcome_of q.decision w.request (length (woken_of q.decision (waiters_of w.request w.caller before))) (bits_left w.request w.caller q.decision rs) ≡ made.outcome
     outcome-made =
-        sym (has-outcome q.decision w.request w.caller w.compared (list_at before.pend (argument w.request 0)) _ h.planned.served)
+        ap (outcome_of q.decision w.request (length (woken_of q.decision (waiters_of w.request w.caller before)))) bits-made
+        ∙ sym (has-outcome q.decision w.request w.caller w.compared (waiters_of w.request w.caller before) before h.planned.served)
         ∙ ap (λ (e : Effect). e.outcome) (sym h.planned.effect)
 
 -- the same decision is concluded
@@ -119,15 +128,16 @@ pub same-concluded : (d e : Decision) (r u : Request) (x y : ℕ) (xs ys : List 
 same-concluded d e r u x y xs ys k a b c f =
     ap (λ i. concluded i r x xs k) a ∙ ap (λ i. concluded e i x xs k) b ∙ ap (λ i. concluded e u i xs k) c ∙ ap (λ i. concluded e u y i k) f
 
-pub same-outcome : (d e : Decision) (r u : Request) (xs ys : List ℕ) → d ≡ e → r ≡ u → xs ≡ ys → outcome_of d r.service (length xs) ≡ outcome_of e u.service (length ys)
-same-outcome d e r u xs ys a b f =
-    ap (λ i. outcome_of i r.service (length xs)) a ∙ ap (λ (i : Request). outcome_of e i.service (length xs)) b ∙ ap (λ i. outcome_of e u.service (length i)) f
+pub same-outcome : (d e : Decision) (r u : Request) (x y : ℕ) (xs ys : List ℕ) (k : Kernel) → d ≡ e → r ≡ u → x ≡ y → xs ≡ ys → outcome_of d r (length xs) (bits_left r x d k) ≡ outcome_of e u (length ys) (bits_left u y e k)
+same-outcome d e r u x y xs ys k a b c f =
+    ap (λ i. outcome_of i r (length xs) (bits_left r x i k)) a ∙ ap (λ i. outcome_of e i (length xs) (bits_left i x e k)) b
+    ∙ ap (λ i. outcome_of e u (length xs) (bits_left u i e k)) c ∙ ap (λ (zs : List ℕ). outcome_of e u (length zs) (bits_left u y e k)) f
 
 -- what is sound at the last micro-step stays so once what was decided is made
 pub sound-end : (w v : WorkRecord) (q p : Plan) (around : Around) (r n : RecordsRecord) (s0 s t : StepsRecord) (i : IsSound r s0 q around w true)
     → links_left (state_with r.state s0.start).tasks q ≡ [] → IsPaused (blocks (effect_of w (state_with r.state s0.start)) (state_with r.state s0.start)) (lists_of (state_with r.state s0.start)) (w.done + 1) [] i.hand.end s
     → s.prios ≡ s0.prios → t.halves ≡ s.halves → t.prios ≡ s.prios → t.start ≡ s.halves.forward
-    → n.state ≡ concluded q.decision w.request w.caller (woken_of q.decision (list_at (state_with r.state s0.start).pend (argument w.request 0))) r.state → IsSound n t p around v false
+    → n.state ≡ concluded q.decision w.request w.caller (woken_of q.decision (waiters_of w.request w.caller (state_with r.state s0.start))) r.state → IsSound n t p around v false
 sound-end w v q p around r n s0 s t i none paused prios halves kept start records =
     let made = (effect_of w (state_with r.state s0.start)).kernel in
     let is : state_with n.state t.start ≡ made = ap (λ l. state_with n.state l) start ∙ state-made w q around r.state s0.start s0 s i.valid i.served i.hand none paused n.state records in

@@ -1,4 +1,7 @@
 pub mod MakeFacts
+pub mod OwnFacts
+pub mod OwnChanges
+pub mod WaiterFacts
 pub mod StopFacts
 pub mod PickFacts
 pub mod StartFacts
@@ -7,6 +10,7 @@ pub mod ServedFacts
 pub mod EndFacts
 pub mod LinkFacts
 pub mod WakeCase
+pub mod FlagCase
 pub mod BlockCase
 pub mod BeginFacts
 pub mod PlanningFacts

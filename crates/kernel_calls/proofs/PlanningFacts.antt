@@ -1,41 +1,38 @@
--- Waiters of an object that there is not.
-use Rattle.std.proofs.Common.{◌≡◌, ℕ, ◌<◌, ◌≤◌, ◌/◌, List, [], ◌∷◌, length, map, take, refl, sym, ap, ◌∙◌, subst, inl, inr, true, false, not, arith}
+-- What is planned of a call: who waits, and for what.
+use Rattle.std.proofs.Common.{◌≡◌, ℕ, ◌<◌, ◌≤◌, ◌/◌, List, [], ◌∷◌, length, map, take, refl, sym, ap, ◌∙◌, inl, inr, true, false, not, arith}
 use Rattle.std.specs.Prelude.{nat_lt, ◌==◌}
 use Rattle.std.proofs.lemmas.Bool.Decides.{eqb_tells, leb_tells}
 use Rattle.std.proofs.lemmas.List.{get_or_past, length-map}
 use Rattle.std.proofs.lemmas.Grind.{common_steps}
 use Rattle.kern_model.specs.State.{Kernel, list_at}
-use Rattle.kern_model.specs.Checks.{argument}
 use Rattle.kern_model.specs.Effect.{chosen}
+use Rattle.kern_model.specs.Micro.{Lists}
+use Rattle.kern_model.specs.Services.{content_for}
 use Rattle.kern_model.specs.Valid.{AllWait}
 use Rattle.kern_model.proofs.Lemmas.{AllWait-chosen}
-use Rattle.decisions.specs.Decided.{wait_of}
+use Rattle.decisions.specs.Decided.{bits_in}
 use Rattle.kernel_records.specs.Deciding.{IsServedDecision, decision_of}
-use Rattle.kernel_records.proofs.DecidingFacts.{acting-inside}
+use Rattle.kernel_records.specs.RecordsRecord.{with_lists}
+use Rattle.kernel_records.proofs.ConcludingFacts.{own-bare}
 use Rattle.std.specs.Prelude.{All as AllOf}
 use Rattle.std.proofs.lemmas.List.Elements.{All-nil, All-cons}
 use Rattle.kern_base.specs.declared.requests.Request.{Request}
 use Rattle.kern_base.specs.declared.outcomes.Around.{Around}
 use Rattle.kern_base.specs.declared.outcomes.Decision.{Decision}
 use Rattle.kern_base.specs.declared.outcomes.Decision.TheVariants.{Done, Block, Wake}
-use Rattle.kern_base.specs.declared.outcomes.Who.{Who}
 use Rattle.kern_base.specs.declared.outcomes.Who.TheVariants.{First, All, Matching}
 use Rattle.micro_steps.specs.Halfway.{tasks_in}
 use Rattle.micro_steps.proofs.Seen.{list_at-take, list_at-tasks}
 use Rattle.pend_lists.specs.Pending.{AreNodeLists}
 use Rattle.kernel_records.specs.Concluding.{objects_waited, woken_of}
-use Rattle.kernel_calls.specs.Stepping.{IsPast}
+use Rattle.kernel_calls.specs.Stepping.{IsPast, planned_bits}
+use Rattle.kernel_records.proofs.WaitFacts.{waited-objects}
 
 -- past the lists nobody waits
 pub none-past : (lists : List (List ℕ)) (o : ℕ) → AreNodeLists lists → 64 ≤ o → list_at (tasks_in lists) o ≡ []
 none-past lists o a h =
     let count : length (tasks_in lists) ≡ 64 = length-map lists (map (λ n. n / 8)) ∙ a.count in
     get_or_past (tasks_in lists) o [] (omega arith)
-
-pub none-woken : (who : Who) → woken_of (Wake who) [] ≡ []
-none-woken First = refl
-none-woken All = refl
-none-woken Matching = refl
 
 -- the kernel's lists of waiters are all that there are
 pub all-waiters : (n : ℕ) (lists : List (List ℕ)) (o : ℕ) → IsPast n lists → list_at (take n (tasks_in lists)) o ≡ list_at (tasks_in lists) o
@@ -67,13 +64,20 @@ woken-below (Done a) k xs w = All-nil (λ x. x < 64)
 woken-below Block k xs w = All-nil (λ x. x < 64)
 woken-below (Wake First) k xs w = waiters-below k (chosen false xs) (AllWait-chosen k false xs w)
 woken-below (Wake All) k xs w = waiters-below k xs w
-woken-below (Wake Matching) k xs w = All-nil (λ x. x < 64)
+woken-below (Wake Matching) k xs w = waiters-below k xs w
 
--- and what is waited for is one of 64 objects
+-- and what is waited for are some of 64 objects
 pub objects-below : (d : Decision) (r : Request) (seen : Around) (k : Kernel) → d ≡ decision_of r seen k → IsServedDecision d r.service → length k.objects ≤ 64 → AllOf (λ o. o < 64) (objects_waited d r)
 objects-below (Done a) r seen k e s n = All-nil (λ o. o < 64)
-objects-below Block r seen k e s n =
-    let inside = acting-inside r seen Block k e refl in
-    let one : (wait_of r.service r).objects ≡ argument r 0 ∷ [] = ap (λ u. (wait_of u r).objects) s in
-    subst (AllOf (λ o. o < 64)) (sym one) (All-cons (λ o. o < 64) (argument r 0) [] (omega arith) (All-nil (λ o. o < 64)))
+objects-below Block r seen k e s n = λ i o h. let below = (waited-objects r seen k e s).inside i o h in omega (arith, below, n)
 objects-below (Wake who) r seen k e s n = All-nil (λ o. o < 64)
+
+-- the bits of a plan do not depend on the lists of the kernel
+pub bits-lists : (d : Decision) (r : Request) (x : ℕ) (k : Kernel) (l : Lists) → planned_bits d r x k ≡ planned_bits d r x (with_lists k l)
+bits-lists (Done a) r x k l = refl
+bits-lists Block r x k l = refl
+bits-lists (Wake First) r x k l = refl
+bits-lists (Wake All) r x k l = refl
+bits-lists (Wake Matching) r x k l =
+    let held : Kernel → ℕ = λ j. bits_in (content_for r j) in
+    ap held (own-bare r x (Wake Matching) k) ∙ sym (ap held (own-bare r x (Wake Matching) (with_lists k l)))

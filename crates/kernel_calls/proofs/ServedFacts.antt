@@ -1,117 +1,129 @@
--- What keeps it true that semaphores alone are served.
-use Rattle.std.proofs.Common.{◌≡◌, ℕ, inl, inr, not, arith, ◌<◌, List, [], ◌∷◌, get_or, refl, sym, ◌∙◌, subst, Bool, true, false}
-use Rattle.std.specs.Prelude.{◌&&◌, if◌then◌else◌}
-use Rattle.std.proofs.lemmas.Bool.{true≢false}
-use Rattle.std.proofs.lemmas.Bool.Decides.{eqb_tells, leb_tells}
+-- What keeps it true that no task waits for several objects, and that no result has a table.
+use Rattle.std.proofs.Common.{◌≡◌, ℕ, inl, inr, ◌<◌, List, [], ◌∷◌, get_or, Option, Some, None, refl, sym, ap, ◌∙◌, subst, true, false}
+use Rattle.std.proofs.lemmas.Bool.Decides.{leb_tells}
 use Rattle.kern_base.specs.declared.services.Service.{Service}
-use Rattle.kern_base.specs.declared.services.Service.TheVariants.{SemPost}
+use Rattle.kern_base.specs.declared.services.Service.TheVariants.{FlagPend, TaskSemPend, TaskQPend}
 use Rattle.kern_base.specs.declared.requests.Request.{Request}
 use Rattle.kern_base.specs.declared.outcomes.Answer.{Answer}
 use Rattle.kern_base.specs.declared.outcomes.Decision.{Decision}
 use Rattle.kern_base.specs.declared.outcomes.Decision.TheVariants.{Done, Block, Wake}
+use Rattle.kern_base.specs.declared.outcomes.Finished.{Finished}
 use Rattle.kern_base.specs.declared.outcomes.Who.TheVariants.{First, All, Matching}
 use Rattle.kern_base.specs.declared.outcomes.Waiting.{Waiting}
 use Rattle.kern_base.specs.declared.outcomes.Waiting.TheVariants.{No, Delay, Obj, TaskSem, TaskQ, Multi, Signal}
-use Rattle.kern_model.specs.State.{Kernel, Task, no_task, task_at, update_task, is_zero, waits_for_nothing}
-use Rattle.kern_model.specs.Effect.{Effect, answered_task, blocked, chosen, posted_to, waiting_task, wakes, wakes_all}
+use Rattle.kern_model.specs.State.{Kernel, Task, no_task, task_at, count_of, update_task}
+use Rattle.kern_model.specs.Effect.{Effect, answered_task, blocked, chosen, fine, result_of, waited, waiting_task, wakes, wakes_all}
+use Rattle.kern_model.specs.FlagBits.{ready_bits}
+use Rattle.kern_model.specs.Flags.{flag_wakes, flag_wakes_all}
+use Rattle.kern_model.specs.Services.{content_for}
 use Rattle.kern_model.specs.Valid.{AllWait, IsLinked}
-use Rattle.kern_model.proofs.Lemmas.{AllWait-chosen, AllWait-wakes, and_first, and_second, update_task_at}
-use Rattle.decisions.specs.Decided.{decided, ending_of, handed, handed_result, wait_of}
+use Rattle.kern_model.proofs.Lemmas.{AllWait-chosen, AllWait-wakes, update_task_at}
+use Rattle.decisions.specs.Decided.{bits_in, decided, ending_of, handed, wait_of}
 use Rattle.kernel_records.specs.Deciding.{IsServedDecision, own_change}
-use Rattle.kernel_records.specs.Concluding.{handing, IsSingle}
-use Rattle.kernel_records.specs.Served.{IsServed, IsServedFinished, IsServedResult, IsServedWait}
-use Rattle.kernel_records.proofs.ConcludingFacts.{plain-wait, plain-wake}
-use Rattle.kernel_records.proofs.DecidingFacts.{own-none}
+use Rattle.kernel_records.specs.Concluding.{handing}
+use Rattle.kernel_records.specs.Served.{HasNoTable, IsServed, IsSingle}
+use Rattle.kernel_records.proofs.ConcludingFacts.{all-posts, handing-single, plain-flags, plain-wait, plain-wake}
+use Rattle.kernel_records.proofs.RowFacts.{own-block, own-wake}
+use Rattle.kernel_calls.proofs.OwnChanges.{beside, flag_wakes-beside, free_posted, objects_posted, own-flags, own-keeps}
+use Rattle.kernel_calls.proofs.WaiterFacts.{IsIdleWait, internal-wait}
 
 -- one task changed
-pub served-task : (k j : Kernel) (x : ℕ) (f : Task → Task) → j.tasks ≡ update_task k.tasks x f → (x < 60 → IsServedWait (f (task_at k x)).waiting) → IsServedResult (f (task_at k x)).answered → IsServed k → IsServed j
+pub served-task : (k j : Kernel) (x : ℕ) (f : Task → Task) → j.tasks ≡ update_task k.tasks x f → (x < 60 → IsSingle (f (task_at k x)).waiting) → HasNoTable (f (task_at k x)).answered → IsServed k → IsServed j
 served-task k j x f e wait result s =
     record {
-      waits = subst (λ ts. (y : ℕ) → y < 60 → IsServedWait (get_or ts y no_task).waiting) (sym e) (update_task_at (λ n t. n < 60 → IsServedWait t.waiting) f k.tasks x (λ old. wait) s.waits);
-      reads = subst (λ ts. (y : ℕ) → IsServedResult (get_or ts y no_task).answered) (sym e) (update_task_at (λ n t. IsServedResult t.answered) f k.tasks x (λ old. result) s.reads);
+      waits = subst (λ ts. (y : ℕ) → y < 60 → IsSingle (get_or ts y no_task).waiting) (sym e) (update_task_at (λ n t. n < 60 → IsSingle t.waiting) f k.tasks x (λ old. wait) s.waits);
+      reads = subst (λ ts. (y : ℕ) → HasNoTable (get_or ts y no_task).answered) (sym e) (update_task_at (λ n t. HasNoTable t.answered) f k.tasks x (λ old. result) s.reads);
     }
 
--- the result that a post hands to a waiter for a semaphore
-posted-served : (w : Waiting) (o : ℕ) (a : Answer) (t : Task) → IsServedWait w → waits_for_nothing w ≡ false → IsServedFinished (posted_to w o a t)
-posted-served No o a t s h = absurd (true≢false h)
-posted-served (Obj service) o a t s h = record { service = s; no_table = refl }
-posted-served Delay o a t s h = absurd s
-posted-served TaskSem o a t s h = absurd s
-posted-served TaskQ o a t s h = absurd s
-posted-served Multi o a t s h = absurd s
-posted-served Signal o a t s h = absurd s
+-- the result of a wait that is not for several objects
+bare-waited : (w : Waiting) (t : Task) (a : Answer) → IsSingle w → (waited w t a).n_ids ≡ 0
+bare-waited No t a s = refl
+bare-waited Delay t a s = refl
+bare-waited (Obj service) t a s = refl
+bare-waited TaskSem t a s = refl
+bare-waited TaskQ t a s = refl
+bare-waited Multi t a s = absurd s
+bare-waited Signal t a s = refl
 
-handed-served : (s : Service) (r : Request) (t : Task) → s ≡ SemPost → IsServedWait t.waiting → waits_for_nothing t.waiting ≡ false → IsServedFinished (handed_result s r (handed (ending_of s) s r) t)
-handed-served s r t e w h = subst (λ u. IsServedFinished (handed_result u r (handed (ending_of u) u r) t)) (sym e) (posted-served t.waiting _ _ t w h)
+bare-handing : (r : Request) (t : Task) → IsSingle t.waiting → (handing r t).n_ids ≡ 0
+bare-handing r t s =
+    let a = handed (ending_of r.service) r.service r in
+    ap (λ (f : Finished). f.n_ids) (handing-single r.service r a t s) ∙ bare-waited t.waiting t a s
 
-served-wakes : (r : Request) (h : ℕ) (xs : List ℕ) (k : Kernel) → r.service ≡ SemPost → AllWait k xs → IsServed k → IsServed (wakes_all (handing r) h xs k)
-served-wakes r h [] k e w s = s
-served-wakes r h (x ∷ xs) k e w s =
+-- one task is woken
+served-wake : (f : Finished) (h x : ℕ) (k : Kernel) → f.n_ids ≡ 0 → IsServed k → IsServed (wakes f h x k)
+served-wake f h x k e s = served-task k (wakes f h x k) x (answered_task f) refl (λ i. tt) e s
+
+served-wakes : (r : Request) (h : ℕ) (xs : List ℕ) (k : Kernel) → AllWait k xs → IsServed k → IsServed (wakes_all (handing r) h xs k)
+served-wakes r h [] k w s = s
+served-wakes r h (x ∷ xs) k w s =
     let f = handing r (task_at k x) in
-    let one : IsServed (wakes f h x k) = served-task k (wakes f h x k) x (answered_task f) refl (λ i. tt) (handed-served r.service r (task_at k x) e (s.waits x w.0) w.1) s in
-    served-wakes r h xs (wakes f h x k) e (AllWait-wakes f h x k xs w.2 w.3) one
+    served-wakes r h xs (wakes f h x k) (AllWait-wakes f h x k xs w.2 w.3) (served-wake f h x k (bare-handing r (task_at k x) (s.waits x w.0)) s)
+
+-- one task is looked at
+served-look : (ready : Option ℕ) (h x : ℕ) (xs : List ℕ) (k : Kernel) → x < 60 → count_of x xs ≡ 0 → AllWait k xs → IsServed k → AllWait (flag_wakes ready h x k) xs × IsServed (flag_wakes ready h x k)
+served-look None h x xs k below none w s = (w, s)
+served-look (Some ready) h x xs k below none w s =
+    let t = task_at k x in
+    let f = result_of (fine ready) t in
+    (AllWait-wakes f h x k xs none w, served-wake f h x k (bare-waited t.waiting t (fine ready) (s.waits x below)) s)
+
+served-looks : (bits h : ℕ) (xs : List ℕ) (k : Kernel) → AllWait k xs → IsServed k → IsServed (flag_wakes_all bits h xs k)
+served-looks bits h [] k w s = s
+served-looks bits h (x ∷ xs) k w s =
+    let ready = ready_bits bits (task_at k x).mask (task_at k x).opt in
+    let one = served-look ready h x xs k w.0 w.2 w.3 s in
+    served-looks bits h xs (flag_wakes ready h x k) one.0 one.1
+
+-- what a call is about changes
+served-own : (r : Request) (x : ℕ) (d : Decision) (k : Kernel) → IsServed k → IsServed (own_change r x d k)
+served-own r x d k s =
+    record {
+      waits = λ y l. subst IsSingle (sym (own-keeps (λ (t : Task). t.waiting) (λ t n ms. refl) r x d k y)) (s.waits y l);
+      reads = λ y. subst HasNoTable (sym (own-keeps (λ (t : Task). t.answered) (λ t n ms. refl) r x d k y)) (s.reads y);
+    }
+
+-- a caller waits for one object, or for its own semaphore or queue
+single-wait : (s : Service) (r : Request) → IsSingle (wait_of s r).waiting
+single-wait FlagPend r = tt
+single-wait TaskSemPend r = tt
+single-wait TaskQPend r = tt
+single-wait _ r = tt
 
 -- what was decided
-pub served-decided : (d : Decision) (r : Request) (x h : ℕ) (xs : List ℕ) (k : Kernel) → IsServedDecision d r.service → AllWait k xs → IsServed k → IsServed (decided d r.service r x h xs (own_change r d k)).kernel
-served-decided (Done a) r x h xs k d w s = record { waits = s.waits; reads = s.reads }
+pub served-decided : (d : Decision) (r : Request) (x h : ℕ) (xs : List ℕ) (k : Kernel) → IsServedDecision d r.service → AllWait k xs → IsServed k → IsServed (decided d r.service r x h xs (own_change r x d k)).kernel
+served-decided (Done a) r x h xs k d w s = served-own r x (Done a) k s
 served-decided Block r x h xs k d w s =
-    subst (λ (e : Effect). IsServed e.kernel) (sym (plain-wait r.service _ d))
-    (served-task k (blocked (own_change r Block k) x (wait_of r.service r)) x (waiting_task (wait_of r.service r)) refl (λ i. subst (λ u. IsServedWait (wait_of u r).waiting) (sym d) refl) (s.reads x) s)
+    subst (λ (j : Kernel). IsServed (decided Block r.service r x h xs j).kernel) (sym (own-block r x k d))
+    (subst (λ (e : Effect). IsServed e.kernel) (sym (plain-wait r.service _ d))
+    (served-task k (blocked k x (wait_of r.service r)) x (waiting_task (wait_of r.service r)) refl (λ i. single-wait r.service r) (s.reads x) s))
 served-decided (Wake First) r x h xs k d w s =
-    subst (λ (j : Kernel). IsServed (decided (Wake First) r.service r x h xs j).kernel) (sym (own-none r (Wake First) k refl))
-    (subst (λ (e : Effect). IsServed e.kernel) (sym (plain-wake r.service _ _ d)) (served-wakes r h (chosen false xs) k d (AllWait-chosen k false xs w) s))
+    subst (λ (j : Kernel). IsServed (decided (Wake First) r.service r x h xs j).kernel) (sym (own-wake First r x k d))
+    (subst (λ (e : Effect). IsServed e.kernel) (sym (plain-wake r.service _ _ d)) (served-wakes r h (chosen false xs) k (AllWait-chosen k false xs w) s))
 served-decided (Wake All) r x h xs k d w s =
-    subst (λ (j : Kernel). IsServed (decided (Wake All) r.service r x h xs j).kernel) (sym (own-none r (Wake All) k refl))
-    (subst (λ (e : Effect). IsServed e.kernel) (sym (plain-wake r.service _ _ d)) (served-wakes r h xs k d w s))
-served-decided (Wake Matching) r x h xs k d w s = absurd d
+    let post = all-posts r.service d in
+    subst (λ (j : Kernel). IsServed (decided (Wake All) r.service r x h xs j).kernel) (sym (own-wake All r x k post))
+    (subst (λ (e : Effect). IsServed e.kernel) (sym (plain-wake r.service _ _ post)) (served-wakes r h xs k w s))
+served-decided (Wake Matching) r x h xs k d w s =
+    let os = objects_posted r k in
+    let free = free_posted r k in
+    let j = beside k os free in
+    let bits = bits_in (content_for r j) in
+    let looked = served-looks bits h xs k w s in
+    let all : IsServed (beside (flag_wakes_all bits h xs k) os free) = record { waits = looked.waits; reads = looked.reads } in
+    subst (λ (i : Kernel). IsServed (decided (Wake Matching) r.service r x h xs i).kernel) (sym (own-flags r x k d))
+    (subst (λ (e : Effect). IsServed e.kernel) (sym (plain-flags r.service _ _ d))
+    (subst IsServed (sym (flag_wakes-beside bits h xs k os free)) all))
 
 -- No task waits for several objects.
-single-idle : (w : Waiting) → waits_for_nothing w ≡ true → IsSingle w
+single-idle : (w : Waiting) → IsIdleWait w → IsSingle w
 single-idle No h = tt
-single-idle Delay h = tt
-single-idle (Obj s) h = tt
-single-idle TaskSem h = tt
-single-idle TaskQ h = tt
-single-idle Multi h = absurd (true≢false (sym h))
 single-idle Signal h = tt
-
-single-served : (w : Waiting) → IsServedWait w → IsSingle w
-single-served No h = tt
-single-served Delay h = tt
-single-served (Obj s) h = tt
-single-served TaskSem h = tt
-single-served TaskQ h = tt
-single-served Multi h = h
-single-served Signal h = tt
-
-single-if : (b : Bool) → IsSingle (if b then Signal else No)
-single-if true = tt
-single-if false = tt
-
--- who does not live, does not wait
-idle-dead : (b : Bool) (t : Task) → waits_for_nothing t.waiting ≡ b → (waits_for_nothing t.waiting ≡ false → t.alive ≡ true) → t.alive ≡ false → waits_for_nothing t.waiting ≡ true
-idle-dead true t e lives dead = e
-idle-dead false t e lives dead = absurd (true≢false (sym (lives e) ∙ dead))
+single-idle _ h = absurd h
 
 pub all-single : (k : Kernel) → IsLinked k → IsServed k → (x : ℕ) → x < 64 → IsSingle (task_at k x).waiting
 all-single k v s x h =
     elim (leb_tells 60 x) [
-      | inr d ↦ single-served (task_at k x).waiting (s.waits x d.1)
-      | inl d ↦
-          elim (eqb_tells 60 x) [
-            | inl e ↦ subst (λ y. IsSingle (task_at k y).waiting) e.1 (subst IsSingle (sym v.internal.tick_waits) (single-if (is_zero k.tick_signals)))
-            | inr n ↦
-                elim (eqb_tells 61 x) [
-                  | inl e ↦ subst (λ y. IsSingle (task_at k y).waiting) e.1 (subst IsSingle (sym v.internal.timer_waits) (single-if (is_zero k.timer_signals && not k.processing)))
-                  | inr m ↦
-                      elim (eqb_tells 62 x) [
-                        | inl e ↦
-                            subst (λ y. IsSingle (task_at k y).waiting) e.1
-                            (single-idle (task_at k 62).waiting (and_first (waits_for_nothing (task_at k 62).waiting) (is_zero (task_at k 62).suspended) (and_second (task_at k 62).alive (waits_for_nothing (task_at k 62).waiting && is_zero (task_at k 62).suspended) v.internal.idle)))
-                        | inr p ↦
-                            let last : x ≡ 63 = omega (arith, h, d.1, n.1, m.1, p.1) in
-                            subst (λ y. IsSingle (task_at k y).waiting) (sym last) (single-idle (task_at k 63).waiting (idle-dead (waits_for_nothing (task_at k 63).waiting) (task_at k 63) refl (v.tasks.each_task 63).lives v.internal.handler))
-                      ]
-                ]
-          ]
+      | inr d ↦ s.waits x d.1
+      | inl d ↦ single-idle (task_at k x).waiting (internal-wait k v x d.1)
     ]

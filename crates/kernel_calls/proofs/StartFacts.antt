@@ -25,7 +25,7 @@ use Rattle.micro_steps.specs.Starts.{no_lists}
 use Rattle.micro_steps.specs.Whole.{FitsLink, StepsRecord}
 use Rattle.link_plans.specs.declared.plan.Plan.{Plan}
 use Rattle.kernel_records.specs.RecordsRecord.{RecordsRecord, records_at_start}
-use Rattle.kernel_records.specs.Served.{IsServed, IsServedResult, IsServedWait}
+use Rattle.kernel_records.specs.Served.{HasNoTable, IsServed, IsSingle}
 use Rattle.kernel_calls.specs.KernelView.{IsSound, state_with}
 use Rattle.kernel_calls.specs.Stepping.{HasPrios}
 use Rattle.kernel_calls.specs.Works.{WorkRecord}
@@ -179,8 +179,8 @@ take-empty (suc n) (suc m) h = ap (λ lists. [] ∷ lists) (take-empty n m (omeg
 served-start : (i : ImageRecord) → IsValidImage i → IsServed (start_state i)
 served-start i v =
     record {
-      waits = each i v (λ x t. x < 60 → IsServedWait t.waiting) (λ x h l. tt) (λ x g h l. tt) (λ l. absurd (omega arith)) (λ l. absurd (omega arith)) (λ l. tt) (λ x h l. tt);
-      reads = each i v (λ x t. IsServedResult t.answered) (λ x h. tt) (λ x l h. tt) tt tt tt (λ x h. tt);
+      waits = each i v (λ x t. x < 60 → IsSingle t.waiting) (λ x h l. tt) (λ x g h l. tt) (λ l. absurd (omega arith)) (λ l. absurd (omega arith)) (λ l. tt) (λ x h l. tt);
+      reads = each i v (λ x t. HasNoTable t.answered) (λ x h. tt) (λ x l h. tt) tt tt tt (λ x h. tt);
     }
 
 pub linked_at_start : (i : ImageRecord) → IsValidImage i → HasWords i → IsLinked (start_state i)

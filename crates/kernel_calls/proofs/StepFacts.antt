@@ -9,7 +9,8 @@ use Rattle.kern_model.specs.State.{Kernel}
 use Rattle.kern_model.specs.Effect.{Effect}
 use Rattle.kern_model.specs.Micro.{Lists, Micro, lists_of}
 use Rattle.kern_model.specs.Call.{call_of}
-use Rattle.kern_model.specs.Services.{blocks, cost, program_serves}
+use Rattle.kern_model.specs.Served.{program_serves}
+use Rattle.kern_model.specs.Services.{blocks, cost}
 use Rattle.kern_model.specs.Valid.{IsLinked, MayCall}
 use Rattle.kern_model.proofs.Lemmas.{cost-effect-le}
 use Rattle.micro_steps.specs.declared.link.Link.{Link}
@@ -79,6 +80,7 @@ pub record IsSamePlan (q p : Plan) : Type 0 where
   pub compared : p.compared ≡ q.compared
   pub objects : p.objects ≡ q.objects
   pub woken : p.woken ≡ q.woken
+  pub bits : p.bits ≡ q.bits
 
 pub planned-next : (w : WorkRecord) (q p : Plan) (seen : Around) (k : Kernel) → IsSamePlan q p → IsPlanned w q seen k → IsPlanned (stepped w) p seen k
 planned-next w q p seen k e h =
@@ -91,6 +93,7 @@ planned-next w q p seen k e h =
       caller = rw e.caller h.caller;
       compared = rw e.compared h.compared;
       woken = rw (e.woken, e.decision) h.woken;
+      bits = rw (e.bits, e.decision) h.bits;
       objects = rw (e.objects, e.decision) h.objects;
       woken_below = rw e.woken h.woken_below;
       objects_below = rw e.objects h.objects_below;

@@ -13,16 +13,17 @@ use Rattle.micro_steps.specs.Blocks.{prio_in}
 use Rattle.micro_steps.specs.Whole.{AreFit, lists_after, task_blocks}
 use Rattle.link_plans.specs.Fits.{AreKernels, IsNoded}
 use Rattle.link_plans.specs.Plans.{wakes_links}
+use Rattle.link_plans.proofs.Follows.{wakes_keep_prios}
 use Rattle.link_plans.proofs.NodeKeeps.{wakes_keep}
 use Rattle.link_plans.proofs.NodeLaws.{waiter_can_wake}
 use Rattle.link_plans.proofs.Rows.{wakes-row}
 use Rattle.link_plans.proofs.WakeKeeps.{all_wakes_fit}
 use Rattle.kernel_records.specs.Concluding.{handing}
 use Rattle.kernel_calls.specs.Stepping.{HasPrios, prios_over}
-use Rattle.kernel_calls.proofs.LinkFacts.{prios-wakes}
+use Rattle.kernel_calls.proofs.LinkFacts.{over-past}
 
 -- of waiters none stands twice
-once-waiting : (k : Kernel) (xs : List ℕ) → AllWait k xs → (x : ℕ) → count_of x xs ≤ 1
+pub once-waiting : (k : Kernel) (xs : List ℕ) → AllWait k xs → (x : ℕ) → count_of x xs ≤ 1
 once-waiting k [] w x = omega arith
 once-waiting k (y ∷ ys) w x =
     let rest = once-waiting k ys w.3 x in
@@ -34,7 +35,7 @@ once-waiting k (y ∷ ys) w x =
     ]
 
 -- and each is an application task that waits
-one-waiting : (k : Kernel) (xs : List ℕ) → AllWait k xs → (x : ℕ) → 0 < count_of x xs → (x < 60) × (waits_for_nothing (task_at k x).waiting ≡ false)
+pub one-waiting : (k : Kernel) (xs : List ℕ) → AllWait k xs → (x : ℕ) → 0 < count_of x xs → (x < 60) × (waits_for_nothing (task_at k x).waiting ≡ false)
 one-waiting k [] w x i = absurd (omega arith)
 one-waiting k (y ∷ ys) w x i =
     elim (eqb_tells y x) [
@@ -63,4 +64,4 @@ module _ (r : Request) (h : ℕ) (xs : List ℕ) (k : Kernel) (l : Lists) (prios
   wake-nodes = wakes_keep prios k.tasks (wakes_all (handing r) h xs k).tasks h xs l (objects-all r h xs k) a.noded
 
   pub wake-prios : HasPrios k prios → HasPrios (wakes_all (handing r) h xs k) (prios_over (wakes_links k.tasks h xs) prios)
-  wake-prios p = λ y. ap (λ ps. prio_in ps y) (prios-wakes k.tasks h xs prios) ∙ p y ∙ sym (prios-all r h xs k y)
+  wake-prios p = λ y. ap (λ ps. prio_in ps y) (over-past (wakes_links k.tasks h xs) prios ∙ wakes_keep_prios prios k.tasks h xs) ∙ p y ∙ sym (prios-all r h xs k y)

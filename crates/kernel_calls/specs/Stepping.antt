@@ -2,11 +2,12 @@
 use Rattle.std.specs.Prelude.{◌≡◌, ◌<◌, ◌≤◌, ℕ, Bool, true, false, List, [], ◌∷◌, All, length}
 use Rattle.kern_base.specs.declared.numbers.Prio.{Prio}
 use Rattle.kern_base.specs.declared.outcomes.Around.{Around}
-use Rattle.kern_base.specs.declared.outcomes.Who.{Who}
 use Rattle.kern_base.specs.declared.outcomes.Who.TheVariants as who
-use Rattle.kern_model.specs.State.{Kernel, list_at, prio_of}
+use Rattle.kern_model.specs.State.{Kernel, prio_of}
 use Rattle.kern_model.specs.Micro.{Lists, lists_of, whole}
-use Rattle.kern_model.specs.Checks.{argument}
+use Rattle.kern_base.specs.declared.requests.Request.{Request}
+use Rattle.kern_base.specs.declared.outcomes.Decision.{Decision}
+use Rattle.kern_base.specs.declared.outcomes.Decision.TheVariants.{Wake}
 use Rattle.kern_model.specs.Services.{blocks, cost}
 use Rattle.links.specs.Chain as nodes
 use Rattle.micro_steps.specs.declared.link.Link.{Link}
@@ -17,8 +18,8 @@ use Rattle.link_plans.specs.Plans.{links_left}
 use Rattle.link_plans.specs.declared.plan.Plan.{Plan}
 use Rattle.decisions.specs.Around.{IsAround}
 use Rattle.decisions.specs.Decided.{decided}
-use Rattle.kernel_records.specs.Deciding.{IsServedDecision, decision_of, own_change}
-use Rattle.kernel_records.specs.Concluding.{objects_waited, woken_of}
+use Rattle.kernel_records.specs.Deciding.{IsServedDecision, decision_of, own_change, waiters_of}
+use Rattle.kernel_records.specs.Concluding.{bits_left, objects_waited, woken_of}
 use Rattle.kernel_calls.specs.Works.{MayBegin, WorkRecord, effect_of}
 
 -- the present priorities of all tasks are these
@@ -39,17 +40,23 @@ pub record AreNodes (k : Kernel) (l : Lists) : Type 0 where
   pub noded : IsNoded k.tasks l.pend
   pub past : IsPast (length k.objects) l.pend
 
--- What is planned of a work: what was decided of its request, with this around it, which is what its service does; the tasks to be
--- woken and the objects to be waited for.
+-- the bits that a post of event flags leaves, of the plan of one; 0 in any other plan
+abbrev pub planned_bits : Decision → Request → ℕ → Kernel → ℕ
+planned_bits (Wake who.Matching) r x k = bits_left r x (Wake who.Matching) k
+planned_bits d r x k = 0
+
+-- What is planned of a work: what was decided of its request, with this around what it is about, which is what its service does; the
+-- tasks to be woken or looked at, and the objects to be waited for.
 pub record IsPlanned (w : WorkRecord) (q : Plan) (seen : Around) (k : Kernel) : Type 0 where
-  pub around : IsAround seen (list_at k.pend (argument w.request 0)) k
+  pub around : IsAround seen (waiters_of w.request w.caller k) k
   pub who : seen.caller.0 ≡ w.caller
   pub decision : q.decision ≡ decision_of w.request seen k
-  pub effect : effect_of w k ≡ decided q.decision w.request.service w.request w.caller w.compared (list_at k.pend (argument w.request 0)) (own_change w.request q.decision k)
+  pub effect : effect_of w k ≡ decided q.decision w.request.service w.request w.caller w.compared (waiters_of w.request w.caller k) (own_change w.request w.caller q.decision k)
   pub served : IsServedDecision q.decision w.request.service
   pub caller : q.caller.0 ≡ w.caller
   pub compared : q.compared.0 ≡ w.compared
-  pub woken : q.woken.items ≡ woken_of q.decision (list_at k.pend (argument w.request 0))
+  pub woken : q.woken.items ≡ woken_of q.decision (waiters_of w.request w.caller k)
+  pub bits : q.bits ≡ planned_bits q.decision w.request w.caller k
   pub objects : q.objects.items ≡ objects_waited q.decision w.request
   pub woken_below : All (λ x. x < 64) q.woken.items
   pub objects_below : All (λ o. o < 64) q.objects.items
@@ -74,9 +81,3 @@ pub record IsResting (k : Kernel) (s : StepsRecord) : Type 0 where
 abbrev pub IsHand : Bool → WorkRecord → Plan → Around → Kernel → StepsRecord → Type 0
 IsHand true w q seen k s = IsInHand w q seen k s
 IsHand false w q seen k s = IsResting k s
-
--- a choice of waiters that looks at none of them
-abbrev pub IsFirstOrAll : Who → Type 0
-IsFirstOrAll who.First = Unit {0}
-IsFirstOrAll who.All = Unit {0}
-IsFirstOrAll who.Matching = ⊥

@@ -7,19 +7,20 @@ ghost use Rattle.kern_model.specs.Valid.{IsLinked, has_result};
 ghost use Rattle.kern_model.specs.Finish.{finished};
 ghost use Rattle.kern_model.specs.Stop.{stopped};
 ghost use Rattle.machine_model.specs.Steps.{some_readied};
-ghost use Rattle.tcb_pool.specs.TaskView.{task_of};
+ghost use Rattle.machine_model.specs.Answers.{size_of, with_answer};
+ghost use Rattle.tcb_pool.specs.TaskView.{task_of, without_own};
 ghost use Rattle.rv32_exec.specs.Exec.{exec};
 ghost use Rattle.rv32_exec.specs.Registers.{no_registers};
 ghost use Rattle.kernel_calls.specs.KernelRecord.{halves_in, with_state};
 
 use crate::making::make;
 use crate::work::Work;
-use kern_base::{Around, Finished, Kinds, Prio, TaskId};
+use kern_base::{Answer, Around, Finished, Kinds, Prio, Service, TaskId};
 use kernel_records::Records;
 use link_plans::Plan;
 use links::Links;
 use micro_steps::{Chains, Link, Steps};
-use rv32_exec::{Program, Ram, Regs, Stepped};
+use rv32_exec::{Program, Ram, Stepped};
 use std::marker::Model;
 use tcb_pool::Tcb;
 
@@ -109,10 +110,10 @@ impl<L: Links> Kernel<L> {
         self.records.has_readied(before, prio)
     }
 
-    /// The record of a task.
+    /// The record of a task, which has no part in its own semaphore and queue.
     pub fn tcb(&self, task: TaskId) -> &Tcb
         requires { task.0 < 64 }
-        ensures task { task_of result.now ≡ task_at self.now.state task.0 }
+        ensures task { task_of result.now ≡ without_own (task_at self.now.state task.0) }
         ensures registers { result.now.regs ≡ slice_index_or self.now.registers task.0 no_registers }
         ensures valid { IsLinked self.now.state }
     {
@@ -137,12 +138,14 @@ impl<L: Links> Kernel<L> {
         self.records.run_task(task, program, ram)
     }
 
-    /// Writes the registers of a task, and changes nothing else.
-    pub fn set_regs(&mut self, task: TaskId, regs: Regs)
+    /// Writes the answer of a call into the registers of a task, where they stand, and changes nothing else. Gives the size of a
+    /// message, of a call that takes one.
+    pub fn answer(&mut self, task: TaskId, service: Service, answer: Answer) -> Option<u32>
         requires { task.0 < 64 }
-        ensures { self.new ≡ record self.old { registers = slice_set self.old.registers task.0 regs } }
+        ensures size { result ≡ size_of service answer }
+        ensures registers { self.new ≡ record self.old { registers = slice_set self.old.registers task.0 (with_answer service answer (slice_index_or self.old.registers task.0 no_registers)) } }
     {
-        self.records.set_regs(task, regs);
+        self.records.answer(task, service, answer)
     }
 
     /// What the first action of a task after its wait does: gives the result that waits for it, which is then gone.

@@ -1,16 +1,19 @@
 // What is planned of a call when it begins.
 
-ghost use Rattle.std.specs.Prelude.{◌≡◌, ◌<◌, [], false, slice_index};
-ghost use Rattle.kern_base.specs.declared.outcomes.Decision.TheVariants.{Block, Wake};
+ghost use Rattle.std.specs.Prelude.{◌≡◌, ◌<◌, ℕ, List, [], All, true, false, slice_index};
 ghost use Rattle.kern_model.specs.State.{list_at};
 ghost use Rattle.micro_steps.specs.Halfway.{tasks_in};
 ghost use Rattle.decisions.specs.Around.{first_waiter};
+ghost use Rattle.decisions.specs.Decided.{wait_of};
+ghost use Rattle.task_objects.specs.Rows.{is_task_call};
 ghost use Rattle.kernel_records.specs.Concluding.{objects_waited, woken_of};
 ghost use Rattle.kernel_records.specs.Deciding.{IsServedDecision};
-ghost use Rattle.kernel_calls.specs.Stepping.{IsFirstOrAll};
+ghost use Rattle.kernel_records.specs.Served.{is_served_wait};
+ghost use Rattle.kernel_calls.specs.Stepping.{planned_bits};
 
 use arrayvec::ArrayVec;
-use kern_base::{Decision, ObjId, Prio, Request, TaskId, Who};
+use kern_base::{Around, Decision, ObjId, Prio, Request, TaskId, Who};
+use kernel_records::{Records, is_task_call};
 use link_plans::Plan;
 use links::Links;
 use pend_lists::PendLists;
@@ -26,6 +29,7 @@ pub(crate) fn no_plan() -> Plan {
         compared: Prio(0),
         objects: ArrayVec::new(),
         woken: ArrayVec::new(),
+        bits: 0,
         task: 0,
         made: 0,
         ended: true,
@@ -43,27 +47,41 @@ pub(crate) fn first_waiter<L: Links>(pend: &PendLists<L>, number: u32) -> Option
     pend.first(ObjId(number as u8))
 }
 
-// Plans what was decided of a call.
+// The bits that a post of event flags leaves in its group; 0 of any other decision.
+pub(crate) fn planned_bits(records: &Records, request: &Request, decision: Decision) -> u32
+    requires { IsServedDecision decision request.now.service }
+    ensures { (x : ℕ) → result ≡ planned_bits decision request.now x records.now.state }
+{
+    match decision {
+        Decision::Wake(Who::Matching) => records.bits_left(request),
+        _ => 0,
+    }
+}
+
+// Plans what was decided of a call, with this around what it is about.
 pub(crate) fn plan_call<L: Links>(
     plan: &mut Plan,
     pend: &PendLists<L>,
-    caller: TaskId,
+    seen: &Around,
     request: &Request,
     compared: Prio,
     decision: Decision,
 )
     requires served { IsServedDecision decision request.now.service }
-    requires object { decision ≡ Block → slice_index request.now.args 0 < 64 }
+    requires objects { All (λ o. o < 64) (objects_waited decision request.now) }
     ensures decision { plan.new.decision ≡ decision }
-    ensures caller { plan.new.caller ≡ caller }
+    ensures caller { plan.new.caller ≡ seen.now.caller }
     ensures compared { plan.new.compared ≡ compared }
-    ensures woken { plan.new.woken.items ≡ woken_of decision (list_at (tasks_in pend.now.forward) (slice_index request.now.args 0)) }
+    ensures woken { (xs : List ℕ) → seen.now.first ≡ first_waiter xs
+        → (is_task_call request.now.service ≡ false → xs ≡ list_at (tasks_in pend.now.forward) (slice_index request.now.args 0))
+        → plan.new.woken.items ≡ woken_of decision xs }
     ensures objects { plan.new.objects.items ≡ objects_waited decision request.now }
-    ensures fresh { (plan.new.task ≡ 0) × (plan.new.made ≡ 0) × (plan.new.ended ≡ false) }
+    ensures fresh { (plan.new.bits ≡ 0) × (plan.new.task ≡ 0) × (plan.new.made ≡ 0) × (plan.new.ended ≡ false) }
 {
     plan.decision = decision;
-    plan.caller = caller;
+    plan.caller = seen.caller;
     plan.compared = compared;
+    plan.bits = 0;
     plan.task = 0;
     plan.made = 0;
     plan.ended = false;
@@ -71,28 +89,40 @@ pub(crate) fn plan_call<L: Links>(
     plan.woken.clear();
     match decision {
         Decision::Done(_) => {}
-        Decision::Block => plan.objects.push(request.args[0] as u8),
-        Decision::Wake(who) => choose(&mut plan.woken, pend, request.args[0], who),
+        Decision::Block => plan_wait(&mut plan.objects, request),
+        Decision::Wake(Who::First) => {
+            if let Some(task) = seen.first {
+                plan.woken.push(task.0);
+            }
+        }
+        Decision::Wake(Who::All | Who::Matching) => all_waiters(
+            &mut plan.woken,
+            pend,
+            request.args[0],
+        ),
     }
 }
 
-// The first of an object's waiters, or all.
-fn choose<L: Links>(woken: &mut ArrayVec<u8, 64>, pend: &PendLists<L>, number: u32, who: Who)
+// The objects for which the caller waits: a wait for its own semaphore or queue is in the list of none.
+fn plan_wait(objects: &mut ArrayVec<u8, 8>, request: &Request)
+    requires service { is_served_wait request.now.service ≡ true }
+    requires objects { All (λ o. o < 64) (wait_of request.now.service request.now).objects }
+    requires empty { objects.old.items ≡ [] }
+    ensures { objects.new.items ≡ (wait_of request.now.service request.now).objects }
+{
+    if !is_task_call(request.service) {
+        objects.push(request.args[0] as u8);
+    }
+}
+
+// All that wait for the object of this number.
+fn all_waiters<L: Links>(woken: &mut ArrayVec<u8, 64>, pend: &PendLists<L>, number: u32)
     requires empty { woken.old.items ≡ [] }
-    requires who { IsFirstOrAll who }
-    ensures { woken.new.items ≡ woken_of (Wake who) (list_at (tasks_in pend.now.forward) number) }
+    ensures { woken.new.items ≡ list_at (tasks_in pend.now.forward) number }
 {
     if number >= OBJECTS {
         pend.consistent();
         return;
     }
-    let object = ObjId(number as u8);
-    match who {
-        Who::First => {
-            if let Some(task) = pend.first(object) {
-                woken.push(task.0);
-            }
-        }
-        _ => pend.forward(object, woken),
-    }
+    pend.forward(ObjId(number as u8), woken);
 }

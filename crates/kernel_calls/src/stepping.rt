@@ -2,17 +2,19 @@
 
 ghost use Rattle.std.specs.Prelude.{◌≡◌, ◌<◌, ◌+◌, None, Some};
 ghost use Rattle.kern_base.specs.declared.outcomes.Outcome.TheVariants.{Answered};
-ghost use Rattle.kern_model.specs.State.{list_at};
-ghost use Rattle.decisions.specs.Around.{IsAround};
-ghost use Rattle.kern_model.specs.Services.{cost, posted, post_request, program_serves};
+ghost use Rattle.decisions.specs.Around.{IsAround, first_waiter};
+ghost use Rattle.kernel_records.specs.Deciding.{waiters_of};
+ghost use Rattle.kern_model.specs.Served.{program_serves};
+ghost use Rattle.kern_model.specs.Services.{cost, posted, post_request};
 ghost use Rattle.kern_model.specs.Valid.{IsLinked};
 ghost use Rattle.kernel_calls.specs.KernelRecord.{ended, with_state, IsOpen};
 ghost use Rattle.kernel_calls.specs.Works.{IsPlainAnswer, MayBegin, begun, effect_of, stepped, WorkRecord};
 
 use crate::kernels::Kernel;
-use crate::planning::{first_waiter, plan_call};
+use crate::planning::{first_waiter, plan_call, planned_bits};
 use crate::work::HANDLER;
 use kern_base::{Answer, Around, Outcome, Post, Prio, Request, TaskId};
+use kernel_records::is_task_call;
 use links::Links;
 use micro_steps::Link;
 
@@ -61,10 +63,19 @@ impl<L: Links> Kernel<L> {
         ensures open_yet { 0 < cost (effect_of (begun caller.0 request.now interrupted.0 compared.0) self.old.state) self.old.state }
         ensures valid { IsLinked self.new.state }
     {
-        self.seen = self.around(caller, request.args[0]);
+        self.seen = self.around(caller, request);
         let decision = self.records.decide(request, &self.seen);
+        let bits = planned_bits(&self.records, request, decision);
         let pend = self.steps.chains().pend();
-        plan_call(&mut self.plan, pend, caller, request, compared, decision);
+        plan_call(
+            &mut self.plan,
+            pend,
+            &self.seen,
+            request,
+            compared,
+            decision,
+        );
+        self.plan.bits = bits;
         self.work.begin(caller, request, interrupted, compared);
         self.steps.take(Link::Plain);
         self.busy = true;
@@ -81,18 +92,31 @@ impl<L: Links> Kernel<L> {
         self.begin(HANDLER, &request_of(post), saved, compared);
     }
 
-    // What stands around an object when a call on it is decided.
-    fn around(&self, caller: TaskId, object: u32) -> Around
+    // What stands around what a call is about when it is decided.
+    fn around(&self, caller: TaskId, request: &Request) -> Around
         requires caller { caller.0 < 64 }
         requires free { self.now.hand ≡ None }
-        ensures around { IsAround result (list_at self.now.state.pend object) self.now.state }
+        ensures around { IsAround result (waiters_of request.now caller.0 self.now.state) self.now.state }
         ensures caller { result.caller ≡ caller }
     {
         Around {
             caller,
             locked: self.records.lock() > 0,
-            first: first_waiter(self.steps.chains().pend(), object),
+            first: self.first_waiter(caller, request),
             prio: self.records.tcb(caller).prio,
+        }
+    }
+
+    // The first of those that wait for what a call is about.
+    fn first_waiter(&self, caller: TaskId, request: &Request) -> Option<TaskId>
+        requires caller { caller.0 < 64 }
+        requires free { self.now.hand ≡ None }
+        ensures { result ≡ first_waiter (waiters_of request.now caller.0 self.now.state) }
+    {
+        if is_task_call(request.service) {
+            self.records.own_waiter(request, caller)
+        } else {
+            first_waiter(self.steps.chains().pend(), request.args[0])
         }
     }
 

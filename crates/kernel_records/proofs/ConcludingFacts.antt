@@ -1,57 +1,164 @@
 -- What a decision comes to in the records.
-use Rattle.std.proofs.Common.{◌≡◌, ℕ, ◌<◌, List, [], ◌∷◌, refl, sym, ap, ◌∙◌, subst, false}
+use Rattle.std.proofs.Common.{◌≡◌, ℕ, ◌<◌, List, [], ◌∷◌, ◌++◌, refl, sym, ap, ◌∙◌, subst, Bool, true, false, Option, Some, None}
+use Rattle.std.proofs.lemmas.Bool.{false≢true}
 use Rattle.kern_base.specs.Services.{renews}
 use Rattle.kern_base.specs.declared.services.Service.{Service}
-use Rattle.kern_base.specs.declared.services.Service.TheVariants.{SemPost, SemPend}
+use Rattle.kern_base.specs.declared.services.Service.TheVariants.{SemPost, QPost, FlagPost, TaskSemPost, TaskQPost, SemPend, QPend, FlagPend, TaskSemPend, TaskQPend}
 use Rattle.kern_base.specs.declared.requests.Request.{Request}
+use Rattle.kern_base.specs.declared.outcomes.Answer.{Answer}
 use Rattle.kern_base.specs.declared.outcomes.Decision.{Decision}
 use Rattle.kern_base.specs.declared.outcomes.Decision.TheVariants.{Done, Block, Wake}
+use Rattle.kern_base.specs.declared.outcomes.Finished.{Finished}
+use Rattle.kern_base.specs.declared.outcomes.Waiting.{Waiting}
+use Rattle.kern_base.specs.declared.outcomes.Waiting.TheVariants.{No, Delay, Obj, TaskSem, TaskQ, Multi, Signal}
+use Rattle.kern_base.specs.declared.outcomes.Who.{Who}
 use Rattle.kern_base.specs.declared.outcomes.Who.TheVariants.{First, All, Matching}
-use Rattle.kern_model.specs.State.{Kernel, task_at}
+use Rattle.kern_model.specs.State.{Kernel, Task, task_at, update_task}
 use Rattle.kern_model.specs.Micro.{at_head, at_tail}
-use Rattle.kern_model.specs.Effect.{Effect, answered_task, wakes, wakes_all, chosen}
+use Rattle.kern_model.specs.Effect.{Effect, answered_task, fine, posted_result, posted_to, result_of, unmatched, waited, wakes, wakes_all, chosen}
+use Rattle.kern_model.specs.FlagBits.{ready_bits}
+use Rattle.kern_model.specs.Flags.{flag_wakes, flag_wakes_all}
+use Rattle.kern_model.specs.Services.{content_for}
 use Rattle.kern_model.proofs.Lemmas.{update_task_at}
-use Rattle.decisions.specs.Decided.{ending_of, gone_after, renewed_after}
+use Rattle.decisions.specs.Decided.{bits_in, decided, ending_of, gone_after, handed, handed_result, renewed_after, wait_of}
+use Rattle.task_objects.specs.Rows.{is_task_call}
 use Rattle.kernel_records.specs.RecordsRecord.{without_lists}
-use Rattle.kernel_records.specs.Deciding.{own_change}
-use Rattle.kernel_records.specs.Concluding.{awakened, awakened_all, concluded, handing, IsConcluded, HasOutcome, IsSingle}
+use Rattle.kernel_records.specs.Served.{IsSingle, is_served_post, is_served_wait, may_wake_all}
+use Rattle.kernel_records.specs.Deciding.{IsServedDecision, acts, changed_by, object_change, own_change, task_change}
+use Rattle.kernel_records.specs.Concluding.{AreSingle, HasOutcome, IsConcluded, awakened, awakened_all, awakens, concluded, given, given_ready, handing, looked_at, looked_at_all, waiting_from}
 
 -- tasks that are woken, in the records
 pub wakes-awakened : (r : Request) (h : ℕ) (xs : List ℕ) (k : Kernel) → without_lists (wakes_all (handing r) h xs k) ≡ awakened_all r xs (without_lists k)
 wakes-awakened r h [] k = refl
 wakes-awakened r h (x ∷ xs) k = wakes-awakened r h xs (wakes (handing r (task_at k x)) h x k)
 
--- a post that wakes deletes nothing and renews nothing
-pub plain-wake : (s : Service) (o : ℕ) (e : Effect) → s ≡ SemPost → renewed_after (renews s) at_tail (gone_after (ending_of s) o e) ≡ e
-plain-wake s o e h = subst (λ u. renewed_after (renews u) at_tail (gone_after (ending_of u) o e) ≡ e) (sym h) refl
+-- and those that are looked at
+looks-one : (ready : Option ℕ) (h x : ℕ) (k : Kernel) → without_lists (flag_wakes ready h x k) ≡ given_ready ready x (without_lists k)
+looks-one None h x k = refl
+looks-one (Some ready) h x k = refl
 
-pub plain-wait : (s : Service) (e : Effect) → s ≡ SemPend → renewed_after (renews s) at_head e ≡ e
-plain-wait s e h = subst (λ u. renewed_after (renews u) at_head e ≡ e) (sym h) refl
+pub looks-all : (bits h : ℕ) (xs : List ℕ) (k : Kernel) → without_lists (flag_wakes_all bits h xs k) ≡ looked_at_all bits xs (without_lists k)
+looks-all bits h [] k = refl
+looks-all bits h (x ∷ xs) k =
+    let ready = ready_bits bits (task_at k x).mask (task_at k x).opt in
+    looks-all bits h xs (flag_wakes ready h x k) ∙ ap (looked_at_all bits xs) (looks-one ready h x k)
+
+-- a post that is served deletes nothing and renews nothing
+pub plain-wake : (s : Service) (o : ℕ) (e : Effect) → is_served_post s ≡ true → renewed_after (renews s) at_tail (gone_after (ending_of s) o e) ≡ e
+plain-wake SemPost o e h = refl
+plain-wake QPost o e h = refl
+plain-wake TaskSemPost o e h = refl
+plain-wake TaskQPost o e h = refl
+plain-wake _ o e h = absurd (false≢true h)
+
+-- nor does a post of event flags
+pub plain-flags : (s : Service) (o : ℕ) (e : Effect) → s ≡ FlagPost → renewed_after (renews s) at_tail (gone_after (ending_of s) o e) ≡ e
+plain-flags s o e h = subst (λ u. renewed_after (renews u) at_tail (gone_after (ending_of u) o e) ≡ e) (sym h) refl
+
+pub all-posts : (s : Service) → may_wake_all s ≡ true → is_served_post s ≡ true
+all-posts SemPost h = refl
+all-posts QPost h = refl
+all-posts _ h = absurd (false≢true h)
+
+pub plain-wait : (s : Service) (e : Effect) → is_served_wait s ≡ true → renewed_after (renews s) at_head e ≡ e
+plain-wait SemPend e h = refl
+plain-wait QPend e h = refl
+plain-wait FlagPend e h = refl
+plain-wait TaskSemPend e h = refl
+plain-wait TaskQPend e h = refl
+plain-wait _ e h = absurd (false≢true h)
+
+-- the change of what a call is about has no part in the lists
+bare-by : (b : Bool) (r : Request) (x : ℕ) (d : Decision) (k : Kernel) → is_task_call r.service ≡ b → without_lists (changed_by r x d k) ≡ changed_by r x d (without_lists k)
+bare-by true r x d k e = rw e refl
+bare-by false r x d k e = rw e refl
+
+own-bare-by : (b : Bool) (r : Request) (x : ℕ) (d : Decision) (k : Kernel) → acts d ≡ b → without_lists (own_change r x d k) ≡ own_change r x d (without_lists k)
+own-bare-by true r x d k e = rw e (bare-by (is_task_call r.service) r x d k refl)
+own-bare-by false r x d k e = rw e refl
+
+pub own-bare : (r : Request) (x : ℕ) (d : Decision) (k : Kernel) → without_lists (own_change r x d k) ≡ own_change r x d (without_lists k)
+own-bare r x d k = own-bare-by (acts d) r x d k refl
 
 pub is-concluded : IsConcluded
-is-concluded (Done a) r x h xs k s = refl
-is-concluded Block r x h xs k s = ap (λ (e : Effect). without_lists e.kernel) (plain-wait r.service _ s)
-is-concluded (Wake First) r x h xs k s = ap (λ (e : Effect). without_lists e.kernel) (plain-wake r.service _ _ s) ∙ wakes-awakened r h (chosen false xs) (own_change r (Wake First) k)
-is-concluded (Wake All) r x h xs k s = ap (λ (e : Effect). without_lists e.kernel) (plain-wake r.service _ _ s) ∙ wakes-awakened r h xs (own_change r (Wake All) k)
-is-concluded (Wake Matching) r x h xs k s = absurd s
+is-concluded (Done a) r x h xs k s = own-bare r x (Done a) k
+is-concluded Block r x h xs k s =
+    ap (λ (e : Effect). without_lists e.kernel) (plain-wait r.service _ s)
+    ∙ ap (λ (j : Kernel). waiting_from x (wait_of r.service r) j) (own-bare r x Block k)
+is-concluded (Wake First) r x h xs k s =
+    ap (λ (e : Effect). without_lists e.kernel) (plain-wake r.service _ _ s)
+    ∙ wakes-awakened r h (chosen false xs) (own_change r x (Wake First) k) ∙ ap (awakened_all r (chosen false xs)) (own-bare r x (Wake First) k)
+is-concluded (Wake All) r x h xs k s =
+    ap (λ (e : Effect). without_lists e.kernel) (plain-wake r.service _ _ (all-posts r.service s))
+    ∙ wakes-awakened r h xs (own_change r x (Wake All) k) ∙ ap (awakened_all r xs) (own-bare r x (Wake All) k)
+is-concluded (Wake Matching) r x h xs k s =
+    let j = own_change r x (Wake Matching) k in
+    ap (λ (e : Effect). without_lists e.kernel) (plain-flags r.service _ _ s)
+    ∙ looks-all (bits_in (content_for r j)) h xs j
+    ∙ ap (λ (i : Kernel). looked_at_all (bits_in (content_for r i)) xs i) (own-bare r x (Wake Matching) k)
 
 pub has-outcome : HasOutcome
 has-outcome (Done a) r x h xs k s = refl
 has-outcome Block r x h xs k s = ap (λ (e : Effect). e.outcome) (plain-wait r.service _ s)
 has-outcome (Wake First) r x h xs k s = ap (λ (e : Effect). e.outcome) (plain-wake r.service _ _ s)
-has-outcome (Wake All) r x h xs k s = ap (λ (e : Effect). e.outcome) (plain-wake r.service _ _ s)
-has-outcome (Wake Matching) r x h xs k s = absurd s
+has-outcome (Wake All) r x h xs k s = ap (λ (e : Effect). e.outcome) (plain-wake r.service _ _ (all-posts r.service s))
+has-outcome (Wake Matching) r x h xs k s = ap (λ (e : Effect). e.outcome) (plain-flags r.service _ _ s)
 
 -- the lists of the kernel have no part in it
-pub awakened-bare : (r : Request) (xs : List ℕ) (k : Kernel) → without_lists (awakened_all r xs k) ≡ awakened_all r xs (without_lists k)
+awakened-bare : (r : Request) (xs : List ℕ) (k : Kernel) → without_lists (awakened_all r xs k) ≡ awakened_all r xs (without_lists k)
 awakened-bare r [] k = refl
 awakened-bare r (x ∷ xs) k = awakened-bare r xs (awakened r x k)
 
+looked-one : (ready : Option ℕ) (x : ℕ) (k : Kernel) → without_lists (given_ready ready x k) ≡ given_ready ready x (without_lists k)
+looked-one None x k = refl
+looked-one (Some ready) x k = refl
+
+looked-bare : (bits : ℕ) (xs : List ℕ) (k : Kernel) → without_lists (looked_at_all bits xs k) ≡ looked_at_all bits xs (without_lists k)
+looked-bare bits [] k = refl
+looked-bare bits (x ∷ xs) k =
+    looked-bare bits xs (looked_at bits x k)
+    ∙ ap (looked_at_all bits xs) (looked-one (ready_bits bits (task_at k x).mask (task_at k x).opt) x k)
+
+awakens-bare : (who : Who) (r : Request) (xs : List ℕ) (k : Kernel) → without_lists (awakens who r xs k) ≡ awakens who r xs (without_lists k)
+awakens-bare First r xs k = awakened-bare r xs k
+awakens-bare All r xs k = awakened-bare r xs k
+awakens-bare Matching r xs k = looked-bare (bits_in (content_for r k)) xs k
+
 pub concluded-bare : (d : Decision) (r : Request) (x : ℕ) (xs : List ℕ) (k : Kernel) → without_lists (concluded d r x xs k) ≡ concluded d r x xs (without_lists k)
-concluded-bare (Done a) r x xs k = refl
-concluded-bare Block r x xs k = refl
-concluded-bare (Wake who) r x xs k = awakened-bare r xs (own_change r (Wake who) k)
+concluded-bare (Done a) r x xs k = own-bare r x (Done a) k
+concluded-bare Block r x xs k = ap (λ (j : Kernel). waiting_from x (wait_of r.service r) j) (own-bare r x Block k)
+concluded-bare (Wake who) r x xs k = awakens-bare who r xs (own_change r x (Wake who) k) ∙ ap (awakens who r xs) (own-bare r x (Wake who) k)
+
+-- a task that waits for several objects does not get the answer of a post alone; any other does
+single-posted : (w : Waiting) (o : ℕ) (a : Answer) (t : Task) → IsSingle w → posted_to w o a t ≡ waited w t a
+single-posted No o a t s = refl
+single-posted Delay o a t s = refl
+single-posted (Obj service) o a t s = refl
+single-posted TaskSem o a t s = refl
+single-posted TaskQ o a t s = refl
+single-posted Multi o a t s = absurd s
+single-posted Signal o a t s = refl
+
+-- what a call hands to a task that does not wait for several objects is the result of its wait
+pub handing-single : (s : Service) (r : Request) (a : Answer) (t : Task) → IsSingle t.waiting → handed_result s r a t ≡ result_of a t
+handing-single SemPost r a t h = single-posted t.waiting _ a t h
+handing-single QPost r a t h = single-posted t.waiting _ a t h
+handing-single _ r a t h = refl
 
 -- a task that is woken waits for nothing, and all others wait on
-pub single-awakened : (r : Request) (x : ℕ) (k : Kernel) → ((y : ℕ) → y < 64 → IsSingle (task_at k y).waiting) → (y : ℕ) → y < 64 → IsSingle (task_at (awakened r x k) y).waiting
-single-awakened r x k h y i = update_task_at (λ n t. n < 64 → IsSingle t.waiting) (answered_task (handing r (task_at k x))) k.tasks x (λ old j. tt {0}) h y i
+pub single-given : (x : ℕ) (f : Task → Finished) (k : Kernel) → AreSingle k → AreSingle (given x f k)
+single-given x f k h y i = update_task_at (λ n t. n < 64 → IsSingle t.waiting) (answered_task (f (task_at k x))) k.tasks x (λ old j. tt {0}) h y i
+
+single-ready : (ready : Option ℕ) (x : ℕ) (k : Kernel) → AreSingle k → AreSingle (given_ready ready x k)
+single-ready None x k h = h
+single-ready (Some ready) x k h = single-given x (result_of (fine ready)) k h
+
+pub single-looked : (bits x : ℕ) (k : Kernel) → AreSingle k → AreSingle (looked_at bits x k)
+single-looked bits x k h = single-ready (ready_bits bits (task_at k x).mask (task_at k x).opt) x k h
+
+-- one task is woken by a call
+pub given-handing : (r : Request) (x : ℕ) (k : Kernel) (a : Answer) → IsSingle (task_at k x).waiting → a ≡ handed (ending_of r.service) r.service r → given x (result_of a) k ≡ awakened r x k
+given-handing r x k a h e =
+    ap (λ b. given x (result_of b) k) e
+    ∙ ap (λ (f : Finished). record k { tasks = update_task k.tasks x (answered_task f); matches = unmatched x k.matches })
+    (sym (handing-single r.service r (handed (ending_of r.service) r.service r) (task_at k x) h))

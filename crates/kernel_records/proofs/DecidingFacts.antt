@@ -1,5 +1,5 @@
--- What a refusal and a call without success leave as it was, and on which service a decision can be.
-use Rattle.std.proofs.Common.{◌≡◌, ℕ, zero, suc, ◌<◌, ◌+◌, ◌-◌, List, [], ◌∷◌, length, refl, sym, ap, ◌∙◌, subst, Bool, true, false, ◌&&◌, ◌||◌, not, Option, Some, None}
+-- What is decided of a call: what a refusal leaves, what is known of a decision that acts, and that a decision is what the service does.
+use Rattle.std.proofs.Common.{◌≡◌, ℕ, zero, suc, ◌<◌, ◌≤◌, ◌+◌, ◌-◌, List, [], ◌∷◌, length, refl, sym, ap, ◌∙◌, subst, Bool, true, false, ◌&&◌, ◌||◌, not, Option, Some, None, arith, inl, inr}
 use Rattle.std.specs.Prelude.{if◌then◌else◌, ◌==◌, nat_lt, slice_get, slice_index, slice_set}
 use Rattle.std.proofs.lemmas.Bool.{false≢true}
 use Rattle.std.proofs.lemmas.List.{set-get_or}
@@ -8,27 +8,37 @@ use Rattle.kern_base.specs.Tables.{KindTable}
 use Rattle.kern_base.specs.Services.{names_option}
 use Rattle.kern_base.specs.Checks.{static_error, target_error, object_error, is_one_of, kinds_wanted, names_task, caller_number}
 use Rattle.kern_base.specs.declared.kinds.Kind.{Kind}
-use Rattle.kern_base.specs.declared.kinds.Kind.TheVariants.{Sem}
+use Rattle.kern_base.specs.declared.kinds.Kind.TheVariants.{Sem, Queue, Flags, OneShot, Periodic}
 use Rattle.kern_base.specs.declared.services.Service.{Service}
-use Rattle.kern_base.specs.declared.services.Service.TheVariants.{SemPost, SemPend}
+use Rattle.kern_base.specs.declared.services.Service.TheVariants.{SemPost, QPost, FlagPost, TaskSemPost, TaskQPost, SemPend, QPend, FlagPend, TaskSemPend, TaskQPend, QDel}
 use Rattle.kern_base.specs.declared.requests.Request.{Request}
 use Rattle.kern_base.specs.declared.errors.OsErr.{OsErr}
 use Rattle.kern_base.specs.declared.errors.OsErr.TheVariants.{CallUnknown, ObjectType, OptionInvalid, TaskInvalid, TaskNotExist}
+use Rattle.kern_base.specs.declared.outcomes.Answer.{Answer}
 use Rattle.kern_base.specs.declared.outcomes.Around.{Around}
 use Rattle.kern_base.specs.declared.outcomes.Decision.{Decision}
 use Rattle.kern_base.specs.declared.outcomes.Decision.TheVariants.{Done, Block, Wake}
-use Rattle.kern_model.specs.State.{Kernel, Object, Content, Count, Messages, Bits, Held, Timed, object_at, no_object, task_at, kind_of, kinds_of, with_content}
+use Rattle.kern_model.specs.State.{Kernel, Object, Task, Content, Count, Messages, Bits, Held, Timed, object_at, no_object, no_task, task_at, kind_of, kinds_of, list_at, with_content}
+use Rattle.kern_model.specs.Call.{call_of}
 use Rattle.kern_model.specs.Effect.{refused}
 use Rattle.kern_model.specs.Checks.{argument, call_error, existence_error, first_error, is_deleted, named_task}
-use Rattle.kern_model.specs.Services.{content_for, program_serves}
-use Rattle.kern_model.proofs.Lemmas.{checked_object}
-use Rattle.decisions.specs.Rows.{is_no_error, is_success, refusal, wait_decision}
-use Rattle.decisions.specs.Decided.{decided}
-use Rattle.semaphores.specs.Rows as semaphore
-use Rattle.semaphores.specs.Rows.{IsSemaphoreCall, count_after}
+use Rattle.kern_model.specs.Services.{content_for, effect, perform}
+use Rattle.kern_model.specs.Served.{program_serves}
 use Rattle.kern_model.specs.Micro.{Lists}
+use Rattle.kern_model.proofs.Lemmas.{checked_object}
+use Rattle.kern_laws.proofs.Services.Checks.{named_object}
+use Rattle.decisions.specs.Around.{IsAround}
+use Rattle.decisions.specs.Rows.{is_no_error, is_success, refusal, wait_decision}
+use Rattle.decisions.specs.Decided.{IsDecided, decided}
+use Rattle.semaphores.specs.Rows as semaphore
+use Rattle.event_flags.specs.Rows as flags
+use Rattle.msg_queues.specs.Rows as queue
+use Rattle.task_objects.specs.Rows as own
+use Rattle.task_objects.specs.Rows.{Holds, IsTaskDecided, is_task_call, target, waiters}
+use Rattle.msg_queues.specs.Rows.{IsQueueDecided}
 use Rattle.kernel_records.specs.RecordsRecord.{with_lists}
-use Rattle.kernel_records.specs.Deciding.{content_after, decision_after, decision_by, decision_of, own_change}
+use Rattle.kernel_records.specs.Served.{is_served_post, is_served_wait}
+use Rattle.kernel_records.specs.Deciding.{IsCallOn, IsRow, acts, changed_by, content_after, decision_about, decision_after, decision_by, decision_of, free_after, object_change, own_change, own_task_after, task_change, waiters_of}
 
 -- an object that keeps what it holds
 pub same-content : (k : Kernel) (o : ℕ) (c : Content) → c ≡ (object_at k o).content → with_content k o c ≡ k
@@ -36,35 +46,46 @@ same-content k o c e =
     ap (λ bs. record k { objects = bs })
     (ap (λ d. slice_set k.objects o (record (object_at k o) { content = d })) e ∙ set-get_or k.objects o no_object)
 
--- a call without success leaves a count
-pub count-none : (s : Service) (d : Decision) (n : ℕ) → is_success d ≡ false → count_after s d n ≡ n
-count-none SemPost d n h = ap (λ b. if b then n + 1 else n) h
-count-none SemPend d n h = ap (λ b. if b then n - 1 else n) h
-count-none _ d n h = refl
+-- a decision that acts not leaves what a call is about
+own-by : (r : Request) (x : ℕ) (d : Decision) (k : Kernel) (b : Bool) → acts d ≡ b → b ≡ false → own_change r x d k ≡ k
+own-by r x d k b e h = ap (λ c. if c then changed_by r x d k else k) (e ∙ h)
 
-pub content-none : (s : Service) (d : Decision) (c : Content) → is_success d ≡ false → content_after s d c ≡ c
-content-none s d (Count n) h = ap Count (count-none s d n h)
-content-none s d (Messages limit ms) h = refl
-content-none s d (Bits bits) h = refl
-content-none s d (Held owner nesting) h = refl
-content-none s d (Timed t) h = refl
+pub own-none : (r : Request) (x : ℕ) (d : Decision) (k : Kernel) → acts d ≡ false → own_change r x d k ≡ k
+own-none r x d k h = own-by r x d k (acts d) refl h
 
--- a call without success leaves its object
-pub own-none : (r : Request) (d : Decision) (k : Kernel) → is_success d ≡ false → own_change r d k ≡ k
-own-none r d k h = same-content k (argument r 0) (content_after r.service d (content_for r k)) (content-none r.service d (content_for r k) h)
+pub own-acts : (r : Request) (x : ℕ) (d : Decision) (k : Kernel) → acts d ≡ true → own_change r x d k ≡ changed_by r x d k
+own-acts r x d k h = ap (λ c. if c then changed_by r x d k else k) h
+
+pub changed-object : (r : Request) (x : ℕ) (d : Decision) (k : Kernel) → is_task_call r.service ≡ false → changed_by r x d k ≡ object_change r d k
+changed-object r x d k h = ap (λ c. if c then task_change r (target r.service r x) d k else object_change r d k) h
+
+pub changed-task : (r : Request) (x : ℕ) (d : Decision) (k : Kernel) → is_task_call r.service ≡ true → changed_by r x d k ≡ task_change r (target r.service r x) d k
+changed-task r x d k h = ap (λ c. if c then task_change r (target r.service r x) d k else object_change r d k) h
 
 -- a change of an object leaves its kind
-pub kind-after : (s : Service) (d : Decision) (c : Content) → kind_of (content_after s d c) ≡ kind_of c
-kind-after s d (Count n) = refl
-kind-after s d (Messages limit ms) = refl
-kind-after s d (Bits bits) = refl
-kind-after s d (Held owner nesting) = refl
-kind-after s d (Timed t) = refl
+pub kind-after : (r : Request) (d : Decision) (c : Content) → kind_of (content_after r d c) ≡ kind_of c
+kind-after r d (Count n) = refl
+kind-after r d (Messages limit ms) = refl
+kind-after r d (Bits bits) = refl
+kind-after r d (Held owner nesting) = refl
+kind-after r d (Timed t) = refl
 
-pub kinds-own : (r : Request) (d : Decision) (k : Kernel) → kinds_of (own_change r d k) ≡ kinds_of k
-kinds-own r d k =
+pub kinds-object : (r : Request) (d : Decision) (k : Kernel) → kinds_of (object_change r d k) ≡ kinds_of k
+kinds-object r d k =
     ap (λ (ks : List Kind). record { objects = ks; tasks = k.settings.tasks })
-    (map-set_same (λ (b : Object). kind_of b.content) k.objects (argument r 0) _ no_object (kind-after r.service d (content_for r k)))
+    (map-set_same (λ (b : Object). kind_of b.content) k.objects (argument r 0) _ no_object (kind-after r d (content_for r k)))
+
+kinds-changed : (b : Bool) (r : Request) (x : ℕ) (d : Decision) (k : Kernel) → is_task_call r.service ≡ b → kinds_of (changed_by r x d k) ≡ kinds_of k
+kinds-changed true r x d k e = ap kinds_of (changed-task r x d k e)
+kinds-changed false r x d k e =
+    ap kinds_of (changed-object r x d k e) ∙ kinds-object r d k
+
+kinds-by : (b : Bool) (r : Request) (x : ℕ) (d : Decision) (k : Kernel) → acts d ≡ b → kinds_of (own_change r x d k) ≡ kinds_of k
+kinds-by true r x d k e = ap kinds_of (own-acts r x d k e) ∙ kinds-changed (is_task_call r.service) r x d k refl
+kinds-by false r x d k e = ap kinds_of (own-none r x d k e)
+
+pub kinds-own : (r : Request) (x : ℕ) (d : Decision) (k : Kernel) → kinds_of (own_change r x d k) ≡ kinds_of k
+kinds-own r x d k = kinds-by (acts d) r x d k refl
 
 -- the error of a check is one
 abbrev Fails : Option OsErr → Type 0
@@ -96,73 +117,101 @@ fails-call r x k err e =
     (fails-if (is_deleted (kinds_wanted r.service) (object_at k (argument r 0))) (Some ObjectType) _ refl (fails-if (names_task r.service && not (task_at k (named_task r x)).alive) (Some TaskNotExist) None refl tt)))
 
 -- a refusal as a decision
-pub row-refused : (r : Request) (x h : ℕ) (xs : List ℕ) (k : Kernel) (err : OsErr) → is_no_error err ≡ false → refused k err ≡ decided (refusal err) r.service r x h xs (own_change r (refusal err) k)
-row-refused r x h xs k err e = ap (λ j. refused j err) (sym (own-none r (refusal err) k e))
+pub row-refused : (r : Request) (x h : ℕ) (xs : List ℕ) (k : Kernel) (err : OsErr) → is_no_error err ≡ false → refused k err ≡ decided (refusal err) r.service r x h xs (own_change r x (refusal err) k)
+row-refused r x h xs k err e = ap (λ j. refused j err) (sym (own-none r x (refusal err) k e))
 
--- a decision other than a refusal comes of a semaphore
-pub record IsOfSemaphore (r : Request) (seen : Around) (d : Decision) (k : Kernel) : Type 0 where
-  pub call : IsSemaphoreCall r
+-- a decision that acts comes of a call that has passed its checks
+pub record HasPassed (r : Request) (seen : Around) (d : Decision) (k : Kernel) : Type 0 where
   pub served : program_serves r.service ≡ true
   pub passed : call_error r seen.caller.0 k ≡ None
-  pub decided : d ≡ decision_by (content_for r k) r seen
+  pub decided : d ≡ decision_about r seen k
 
-abbrev Acts : Decision → Bool
-Acts (Done a) = is_no_error a.err
-Acts Block = true
-Acts (Wake who) = true
-
-semaphore-call : (r : Request) (s : Service) → s ≡ r.service → program_serves s ≡ true → IsSemaphoreCall r
-semaphore-call r SemPost e h = ap kinds_wanted (sym e)
-semaphore-call r SemPend e h = ap kinds_wanted (sym e)
-semaphore-call r _ e h = absurd (false≢true h)
-
-acts-after : (r : Request) (seen : Around) (d : Decision) (k : Kernel) (e : Option OsErr) → call_error r seen.caller.0 k ≡ e → d ≡ decision_after e r seen k → Acts d ≡ true → (e ≡ None) × (d ≡ decision_by (content_for r k) r seen)
+acts-after : (r : Request) (seen : Around) (d : Decision) (k : Kernel) (e : Option OsErr) → call_error r seen.caller.0 k ≡ e → d ≡ decision_after e r seen k → acts d ≡ true → (e ≡ None) × (d ≡ decision_about r seen k)
 acts-after r seen d k None i h a = (refl, h)
-acts-after r seen d k (Some err) i h a = absurd (false≢true (sym (fails-call r seen.caller.0 k err i) ∙ sym (ap Acts h) ∙ a))
+acts-after r seen d k (Some err) i h a = absurd (false≢true (sym (fails-call r seen.caller.0 k err i) ∙ sym (ap acts h) ∙ a))
 
-pub of-semaphore : (r : Request) (seen : Around) (d : Decision) (k : Kernel) (b : Bool) → program_serves r.service ≡ b → d ≡ (if b then decision_after (call_error r seen.caller.0 k) r seen k else refusal CallUnknown) → Acts d ≡ true → IsOfSemaphore r seen d k
-of-semaphore r seen d k true s h a =
+acts-served : (r : Request) (seen : Around) (d : Decision) (k : Kernel) (b : Bool) → program_serves r.service ≡ b → d ≡ (if b then decision_after (call_error r seen.caller.0 k) r seen k else refusal CallUnknown) → acts d ≡ true → HasPassed r seen d k
+acts-served r seen d k true s h a =
     let both = acts-after r seen d k (call_error r seen.caller.0 k) refl h a in
-    record { call = semaphore-call r r.service refl s; served = s; passed = both.0; decided = both.1 }
-of-semaphore r seen d k false s h a = absurd (false≢true (sym (ap Acts h) ∙ a))
+    record { served = s; passed = both.0; decided = both.1 }
+acts-served r seen d k false s h a = absurd (false≢true (sym (ap acts h) ∙ a))
 
--- of a decision that acts
-pub acting : (r : Request) (seen : Around) (d : Decision) (k : Kernel) → d ≡ decision_of r seen k → Acts d ≡ true → IsOfSemaphore r seen d k
-acting r seen d k h a = of-semaphore r seen d k (program_serves r.service) refl h a
+pub acting : (r : Request) (seen : Around) (d : Decision) (k : Kernel) → d ≡ decision_of r seen k → acts d ≡ true → HasPassed r seen d k
+acting r seen d k h a = acts-served r seen d k (program_serves r.service) refl h a
 
-pub success-acts : (d : Decision) → is_success d ≡ true → Acts d ≡ true
-success-acts (Done a) h = h
-success-acts Block h = absurd (false≢true h)
-success-acts (Wake who) h = absurd (false≢true h)
+-- what the object decides, of a call that names one; and what the task decides
+pub by-object : (r : Request) (seen : Around) (k : Kernel) → is_task_call r.service ≡ false → decision_about r seen k ≡ decision_by (content_for r k) k.free r seen
+by-object r seen k h = ap (λ b. if b then own.decision_of (task_at k (target r.service r seen.caller.0)).count (task_at k (target r.service r seen.caller.0)).limit (task_at k (target r.service r seen.caller.0)).messages k.free r seen else decision_by (content_for r k) k.free r seen) h
+
+pub by-task : (r : Request) (seen : Around) (k : Kernel) → is_task_call r.service ≡ true → let t = task_at k (target r.service r seen.caller.0) in decision_about r seen k ≡ own.decision_of t.count t.limit t.messages k.free r seen
+by-task r seen k h = ap (λ b. if b then own.decision_of (task_at k (target r.service r seen.caller.0)).count (task_at k (target r.service r seen.caller.0)).limit (task_at k (target r.service r seen.caller.0)).messages k.free r seen else decision_by (content_for r k) k.free r seen) h
+
+-- the kind of object that a call wants
+pub record WantsKind (s : Service) : Type 0 where
+  pub kind : Kind
+  pub wanted : kinds_wanted s ≡ kind ∷ []
+
+pub wants-kind : (s : Service) → program_serves s ≡ true → is_task_call s ≡ false → WantsKind s
+wants-kind SemPost p t = record { kind = Sem; wanted = refl }
+wants-kind SemPend p t = record { kind = Sem; wanted = refl }
+wants-kind QPost p t = record { kind = Queue; wanted = refl }
+wants-kind QPend p t = record { kind = Queue; wanted = refl }
+wants-kind FlagPost p t = record { kind = Flags; wanted = refl }
+wants-kind FlagPend p t = record { kind = Flags; wanted = refl }
+wants-kind TaskSemPost p t = absurd (false≢true (sym t))
+wants-kind TaskSemPend p t = absurd (false≢true (sym t))
+wants-kind TaskQPost p t = absurd (false≢true (sym t))
+wants-kind TaskQPend p t = absurd (false≢true (sym t))
+wants-kind _ p t = absurd (false≢true p)
 
 -- its object is there
-pub acting-inside : (r : Request) (seen : Around) (d : Decision) (k : Kernel) → d ≡ decision_of r seen k → Acts d ≡ true → argument r 0 < length k.objects
-acting-inside r seen d k h a = let it = acting r seen d k h a in checked_object r seen.caller.0 k Sem [] it.call it.passed
+pub passed-inside : (r : Request) (x : ℕ) (k : Kernel) → program_serves r.service ≡ true → is_task_call r.service ≡ false → call_error r x k ≡ None → argument r 0 < length k.objects
+passed-inside r x k s t h = let w = wants-kind r.service s t in checked_object r x k w.kind [] w.wanted h
 
--- a wait of a semaphore blocks only where the scheduler is not locked
-unlocked-wait : (nb locked : Bool) → wait_decision nb locked ≡ Block → locked ≡ false
-unlocked-wait true locked h = absurd cc
-unlocked-wait false true h = absurd cc
-unlocked-wait false false h = refl
+-- a timer is of neither of these kinds
+no-timer : (w : Kind) → is_one_of (w ∷ []) Periodic ≡ false → is_one_of (w ∷ []) OneShot ≡ false → (b : Bool) → is_one_of (w ∷ []) (if b then Periodic else OneShot) ≡ true → ⊥
+no-timer w p o true h = false≢true (sym p ∙ h)
+no-timer w p o false h = false≢true (sym o ∙ h)
 
-unlocked-pend : (n opt : ℕ) (locked : Bool) → semaphore.pend_decision n opt locked ≡ Block → locked ≡ false
-unlocked-pend zero opt locked h = unlocked-wait (opt == 1) locked h
-unlocked-pend (suc n) opt locked h = absurd cc
+-- and holds what the call is for
+on-call : (s : Service) (c : Content) (r : Request) → s ≡ r.service → program_serves s ≡ true → is_task_call s ≡ false → is_one_of (kinds_wanted s) (kind_of c) ≡ true → IsCallOn c r
+on-call SemPost (Count n) r e p t h = ap kinds_wanted (sym e)
+on-call SemPost (Messages limit ms) r e p t h = absurd (false≢true h)
+on-call SemPost (Bits bits) r e p t h = absurd (false≢true h)
+on-call SemPost (Held owner nesting) r e p t h = absurd (false≢true h)
+on-call SemPost (Timed u) r e p t h = no-timer Sem refl refl u.periodic h
+on-call SemPend (Count n) r e p t h = ap kinds_wanted (sym e)
+on-call SemPend (Messages limit ms) r e p t h = absurd (false≢true h)
+on-call SemPend (Bits bits) r e p t h = absurd (false≢true h)
+on-call SemPend (Held owner nesting) r e p t h = absurd (false≢true h)
+on-call SemPend (Timed u) r e p t h = no-timer Sem refl refl u.periodic h
+on-call QPost (Count n) r e p t h = absurd (false≢true h)
+on-call QPost (Messages limit ms) r e p t h = ap kinds_wanted (sym e)
+on-call QPost (Bits bits) r e p t h = absurd (false≢true h)
+on-call QPost (Held owner nesting) r e p t h = absurd (false≢true h)
+on-call QPost (Timed u) r e p t h = no-timer Queue refl refl u.periodic h
+on-call QPend (Count n) r e p t h = absurd (false≢true h)
+on-call QPend (Messages limit ms) r e p t h = ap kinds_wanted (sym e)
+on-call QPend (Bits bits) r e p t h = absurd (false≢true h)
+on-call QPend (Held owner nesting) r e p t h = absurd (false≢true h)
+on-call QPend (Timed u) r e p t h = no-timer Queue refl refl u.periodic h
+on-call FlagPost (Count n) r e p t h = absurd (false≢true h)
+on-call FlagPost (Messages limit ms) r e p t h = absurd (false≢true h)
+on-call FlagPost (Bits bits) r e p t h = ap kinds_wanted (sym e)
+on-call FlagPost (Held owner nesting) r e p t h = absurd (false≢true h)
+on-call FlagPost (Timed u) r e p t h = no-timer Flags refl refl u.periodic h
+on-call FlagPend (Count n) r e p t h = absurd (false≢true h)
+on-call FlagPend (Messages limit ms) r e p t h = absurd (false≢true h)
+on-call FlagPend (Bits bits) r e p t h = ap kinds_wanted (sym e)
+on-call FlagPend (Held owner nesting) r e p t h = absurd (false≢true h)
+on-call FlagPend (Timed u) r e p t h = no-timer Flags refl refl u.periodic h
+on-call TaskSemPost c r e p t h = absurd (false≢true (sym t))
+on-call TaskSemPend c r e p t h = absurd (false≢true (sym t))
+on-call TaskQPost c r e p t h = absurd (false≢true (sym t))
+on-call TaskQPend c r e p t h = absurd (false≢true (sym t))
+on-call _ c r e p t h = absurd (false≢true p)
 
-unlocked-for : (s : Service) (n : ℕ) (r : Request) (seen : Around) → s ≡ SemPend → semaphore.decision_for s n r seen ≡ Block → seen.locked ≡ false
-unlocked-for s n r seen e h = unlocked-pend n (argument r 2) seen.locked (subst (λ u. semaphore.decision_for u n r seen ≡ Block) e h)
-
-pub unlocked-by : (c : Content) (r : Request) (seen : Around) → r.service ≡ SemPend → decision_by c r seen ≡ Block → seen.locked ≡ false
-unlocked-by (Count n) r seen e h = unlocked-for r.service n r seen e h
-unlocked-by (Messages limit ms) r seen e h = absurd cc
-unlocked-by (Bits bits) r seen e h = absurd cc
-unlocked-by (Held owner nesting) r seen e h = absurd cc
-unlocked-by (Timed t) r seen e h = absurd cc
-
--- no decision looks at lists
-after-lists : (e : Option OsErr) (r : Request) (seen : Around) (k : Kernel) (l : Lists) → decision_after e r seen k ≡ decision_after e r seen (with_lists k l)
-after-lists (Some err) r seen k l = refl
-after-lists None r seen k l = refl
-
-pub decision-lists : (r : Request) (seen : Around) (k : Kernel) (l : Lists) → decision_of r seen k ≡ decision_of r seen (with_lists k l)
-decision-lists r seen k l = ap (λ d. if program_serves r.service then d else refusal CallUnknown) (after-lists (call_error r seen.caller.0 k) r seen k l)
+pub passed-call : (r : Request) (x : ℕ) (k : Kernel) → program_serves r.service ≡ true → is_task_call r.service ≡ false → call_error r x k ≡ None → IsCallOn (content_for r k) r
+passed-call r x k s t h =
+    let w = wants-kind r.service s t in
+    on-call r.service (content_for r k) r refl s t (subst (λ ws. is_one_of ws (kind_of (content_for r k)) ≡ true) (sym w.wanted) (named_object r x k w.kind [] w.wanted h).kind)

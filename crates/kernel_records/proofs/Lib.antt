@@ -1,4 +1,12 @@
 pub mod ObjectFacts
 pub mod DecidingFacts
+pub mod RowFacts
+pub mod BitsFacts
+pub mod TaskFacts
+pub mod CallChanges
+pub mod ObjectCalls
+pub mod TaskCalls
+pub mod ConsumeFacts
 pub mod ConcludingFacts
 pub mod StartFacts
+pub mod WaitFacts

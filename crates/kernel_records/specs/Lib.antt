@@ -1,7 +1,7 @@
 pub mod RecordsRecord
 pub mod ObjectView
+pub mod Served
 pub mod Deciding
 pub mod Concluding
-pub mod Served
 pub mod TaskChanges
 pub mod RecordsView

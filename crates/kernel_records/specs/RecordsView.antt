@@ -1,15 +1,15 @@
--- What the fields of the records mean.
-use Rattle.std.specs.Prelude.{◌≡◌, []}
+-- What the fields of the records mean, and what is always true of them.
+use Rattle.std.specs.Prelude.{◌≡◌, ◌≤◌, [], length}
 use Rattle.kern_model.specs.State.{Kernel, kinds_of}
-use Rattle.kernel_records.specs.ObjectView.{objects_in}
+use Rattle.kernel_records.specs.ObjectView.{objects_in, tasks_in}
 use Rattle.kernel_records.specs.RecordsRecord.{RecordsRecord}
 use Rattle.kernel_records.specs.declared.records.Records.TheInside.{Inside}
 
 abbrev pub state_of : Inside → Kernel
 state_of a =
     record {
-      tasks = a.tasks.tasks;
-      objects = objects_in a.objects.items;
+      tasks = tasks_in a.messages.own a.tasks.tasks;
+      objects = objects_in a.messages.queues a.objects.items;
       ready = [];
       pend = [];
       matches = a.matches.items;
@@ -22,13 +22,17 @@ state_of a =
       processing = a.processing;
       in_callback = a.in_callback;
       lock = a.lock;
-      free = a.free;
+      free = a.messages.free;
       settings = record { tasks = a.settings.tasks; round_robin = a.settings.round_robin; tmr_div = a.settings.tmr_div; pool = a.settings.pool };
     }
 
 abbrev pub records_of : Inside → RecordsRecord
 records_of a = record { state = state_of a; registers = a.tasks.registers }
 
--- the kinds of the objects are known
-abbrev pub KnowsKinds : Inside → Type 0
-KnowsKinds a = a.kinds ≡ kinds_of (state_of a)
+-- The kinds of the at most 64 objects are known; each has a queue at its number, and each of the 64 tasks its own objects.
+pub record IsSound (a : Inside) : Type 0 where
+  pub kinds : a.kinds ≡ kinds_of (state_of a)
+  pub few : length a.objects.items ≤ 64
+  pub queues : length a.messages.queues ≡ length a.objects.items
+  pub own : length a.messages.own ≡ 64
+  pub tasks : length a.tasks.tasks ≡ 64

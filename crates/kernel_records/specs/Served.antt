@@ -1,30 +1,46 @@
--- What a kernel still has to know that serves semaphores alone: which waits and results there are.
-use Rattle.std.specs.Prelude.{◌≡◌, ◌<◌, ℕ, Option, Some, None}
-use Rattle.kern_base.specs.declared.services.Service.TheVariants.{SemPend}
+-- What a kernel still has to know that serves no wait for several objects: which waits and results there are.
+use Rattle.std.specs.Prelude.{◌≡◌, ◌<◌, ℕ, Bool, true, false, Option, Some, None}
+use Rattle.kern_base.specs.declared.services.Service.{Service}
+use Rattle.kern_base.specs.declared.services.Service.TheVariants.{SemPend, QPend, FlagPend, TaskSemPend, TaskQPend, SemPost, QPost, TaskSemPost, TaskQPost}
 use Rattle.kern_base.specs.declared.outcomes.Waiting.{Waiting}
-use Rattle.kern_base.specs.declared.outcomes.Waiting.TheVariants.{No, Delay, Obj, TaskSem, TaskQ, Multi, Signal}
+use Rattle.kern_base.specs.declared.outcomes.Waiting.TheVariants.{Multi}
 use Rattle.kern_base.specs.declared.outcomes.Finished.{Finished}
 use Rattle.kern_model.specs.State.{Kernel, task_at}
 
-abbrev pub IsServedWait : Waiting → Type 0
-IsServedWait No = Unit {0}
-IsServedWait (Obj s) = s ≡ SemPend
-IsServedWait Delay = ⊥
-IsServedWait TaskSem = ⊥
-IsServedWait TaskQ = ⊥
-IsServedWait Multi = ⊥
-IsServedWait Signal = ⊥
+-- the waits that are served
+abbrev pub is_served_wait : Service → Bool
+is_served_wait SemPend = true
+is_served_wait QPend = true
+is_served_wait FlagPend = true
+is_served_wait TaskSemPend = true
+is_served_wait TaskQPend = true
+is_served_wait _ = false
 
--- the result of a wait for a semaphore, which has no table
-pub record IsServedFinished (f : Finished) : Type 0 where
-  pub service : f.service ≡ SemPend
-  pub no_table : f.n_ids ≡ 0
+-- the posts that are served and wake the first waiter
+abbrev pub is_served_post : Service → Bool
+is_served_post SemPost = true
+is_served_post QPost = true
+is_served_post TaskSemPost = true
+is_served_post TaskQPost = true
+is_served_post _ = false
 
-abbrev pub IsServedResult : Option Finished → Type 0
-IsServedResult None = Unit {0}
-IsServedResult (Some f) = IsServedFinished f
+-- those of them that may wake all who wait for an object
+abbrev pub may_wake_all : Service → Bool
+may_wake_all SemPost = true
+may_wake_all QPost = true
+may_wake_all _ = false
 
--- An application task waits for nothing or for a semaphore, and a result is that of a wait for a semaphore.
+-- a wait that is not for several objects
+abbrev pub IsSingle : Waiting → Type 0
+IsSingle Multi = ⊥
+IsSingle _ = Unit {0}
+
+-- a result without a table
+abbrev pub HasNoTable : Option Finished → Type 0
+HasNoTable None = Unit {0}
+HasNoTable (Some f) = f.n_ids ≡ 0
+
+-- No application task waits for several objects, and no result has a table.
 pub record IsServed (k : Kernel) : Type 0 where
-  pub waits : (x : ℕ) → x < 60 → IsServedWait (task_at k x).waiting
-  pub reads : (x : ℕ) → IsServedResult (task_at k x).answered
+  pub waits : (x : ℕ) → x < 60 → IsSingle (task_at k x).waiting
+  pub reads : (x : ℕ) → HasNoTable (task_at k x).answered

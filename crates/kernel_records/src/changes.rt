@@ -1,11 +1,11 @@
 // Changes of one task's record.
 
-ghost use Rattle.std.specs.Prelude.{◌≡◌, ◌<◌, ◌≤◌, ℕ, [], ◌∷◌, length, replicate, slice_index, slice_index_or};
+ghost use Rattle.std.specs.Prelude.{◌≡◌, ◌<◌, ◌∷◌, [], All, slice_index, slice_index_or, true};
+ghost use Rattle.kern_base.specs.declared.outcomes.Waiting.TheVariants.{Obj};
 ghost use Rattle.kern_model.specs.State.{update_task, no_task};
-ghost use Rattle.kern_model.specs.Effect.{answered_task, waiting_task, posted_result, plain_result};
+ghost use Rattle.kern_model.specs.Effect.{answered_task, waiting_task, plain_result, result_of};
 ghost use Rattle.decisions.specs.Decided.{wait_of};
-ghost use Rattle.kern_base.specs.declared.services.Service.TheVariants.{SemPend};
-ghost use Rattle.kernel_records.specs.Concluding.{IsSingle};
+ghost use Rattle.kernel_records.specs.Served.{IsSingle, is_served_wait};
 ghost use Rattle.kernel_records.specs.TaskChanges.{cleared_task, stopped_task};
 ghost use Rattle.tcb_pool.specs.TaskView.{task_of};
 
@@ -26,10 +26,10 @@ fn plain_result(service: Service, answer: Answer) -> Finished
     }
 }
 
-// The result that a post with this answer hands to a task, which does not wait for several objects.
-fn posted_result(tcb: &Tcb, answer: Answer) -> Finished
+// The result with this answer of the call in which a task waits, which does not wait for several objects.
+fn result_of(tcb: &Tcb, answer: Answer) -> Finished
     requires { IsSingle tcb.now.wait }
-    ensures { (o : ℕ) → result ≡ posted_result o answer (task_of tcb.now) }
+    ensures { result ≡ result_of answer (task_of tcb.now) }
 {
     let service = match tcb.wait {
         Waiting::Obj(service) => service,
@@ -41,35 +41,79 @@ fn posted_result(tcb: &Tcb, answer: Answer) -> Finished
     plain_result(service, answer)
 }
 
-// The task waits no more, and the result of a post waits for it.
+// The task waits no more, and the result of its call waits for it.
 pub(crate) fn answer_task(tasks: &mut Tcbs, task: TaskId, answer: Answer)
     requires task { task.0 < 64 }
     requires single { IsSingle (slice_index_or tasks.old.tasks task.0 no_task).waiting }
-    ensures tasks { (o : ℕ) → tasks.new.tasks ≡ update_task tasks.old.tasks task.0 (answered_task (posted_result o answer (slice_index_or tasks.old.tasks task.0 no_task))) }
+    ensures tasks { tasks.new.tasks ≡ update_task tasks.old.tasks task.0 (answered_task (result_of answer (slice_index_or tasks.old.tasks task.0 no_task))) }
     ensures registers { tasks.new.registers ≡ tasks.old.registers }
 {
     let mut tcb = *tasks.get(task);
-    tcb.result = Some(posted_result(&tcb, answer));
+    tcb.result = Some(result_of(&tcb, answer));
     tcb.wait = Waiting::No;
     tasks.set(task, tcb);
 }
 
-// The caller of OSSemPend waits.
-pub(crate) fn wait_for(tasks: &mut Tcbs, task: TaskId, request: &Request)
+// The caller waits so. Gives its timeout.
+pub(crate) fn wait_for(tasks: &mut Tcbs, task: TaskId, request: &Request) -> u32
     requires task { task.0 < 64 }
-    requires service { request.now.service ≡ SemPend }
-    requires object { slice_index request.now.args 0 < 64 }
+    requires service { is_served_wait request.now.service ≡ true }
+    requires objects { All (λ o. o < 64) (wait_of request.now.service request.now).objects }
     ensures tasks { tasks.new.tasks ≡ update_task tasks.old.tasks task.0 (waiting_task (wait_of request.now.service request.now)) }
     ensures registers { tasks.new.registers ≡ tasks.old.registers }
+    ensures timeout { result ≡ (wait_of request.now.service request.now).timeout }
 {
     let mut tcb = *tasks.get(task);
-    tcb.wait = Waiting::Obj(request.service);
-    tcb.ids = [request.args[0] as u8, 0, 0, 0, 0, 0, 0, 0];
-    tcb.n_ids = 1;
     tcb.mask = 0;
     tcb.opt = 0;
     tcb.table = 0;
+    let timeout = begin_wait(&mut tcb, request);
     tasks.set(task, tcb);
+    timeout
+}
+
+// Writes what a task waits for that waits in this call. Gives its timeout.
+fn begin_wait(tcb: &mut Tcb, request: &Request) -> u32
+    requires service { is_served_wait request.now.service ≡ true }
+    requires objects { All (λ o. o < 64) (wait_of request.now.service request.now).objects }
+    requires fresh { (tcb.old.mask ≡ 0) × (tcb.old.opt ≡ 0) × (tcb.old.table ≡ 0) }
+    ensures task { task_of tcb.new ≡ waiting_task (wait_of request.now.service request.now) (task_of tcb.old) }
+    ensures registers { tcb.new.regs ≡ tcb.old.regs }
+    ensures timeout { result ≡ (wait_of request.now.service request.now).timeout }
+{
+    match request.service {
+        Service::TaskSemPend => {
+            tcb.wait = Waiting::TaskSem;
+            tcb.n_ids = 0;
+            request.args[0]
+        }
+        Service::TaskQPend => {
+            tcb.wait = Waiting::TaskQ;
+            tcb.n_ids = 0;
+            request.args[0]
+        }
+        Service::FlagPend => {
+            wait_on_object(tcb, request);
+            tcb.mask = request.args[1];
+            tcb.opt = request.args[3];
+            request.args[2]
+        }
+        _ => {
+            wait_on_object(tcb, request);
+            request.args[1]
+        }
+    }
+}
+
+// The task waits in this call for the object that it names.
+fn wait_on_object(tcb: &mut Tcb, request: &Request)
+    requires object { slice_index request.now.args 0 < 64 }
+    ensures task { task_of tcb.new ≡ record (task_of tcb.old) { waiting = Obj request.now.service; objects = slice_index request.now.args 0 ∷ [] } }
+    ensures registers { tcb.new.regs ≡ tcb.old.regs }
+{
+    tcb.wait = Waiting::Obj(request.service);
+    tcb.ids = [request.args[0] as u8, 0, 0, 0, 0, 0, 0, 0];
+    tcb.n_ids = 1;
 }
 
 // The result that waits for the task is gone.

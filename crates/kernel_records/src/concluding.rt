@@ -1,26 +1,30 @@
 // What was decided of a call is made.
 
-ghost use Rattle.std.specs.Prelude.{◌≡◌, ◌<◌, ◌≤◌, ◌++◌, ℕ, All, length, slice_index};
-ghost use Rattle.kern_base.specs.declared.outcomes.Decision.TheVariants.{Block};
-ghost use Rattle.kern_base.specs.declared.services.Service.TheVariants.{SemPost, SemPend};
-ghost use Rattle.kern_model.specs.State.{object_in, task_at, update_object};
-ghost use Rattle.kern_model.specs.Effect.{new_match, unmatched};
-ghost use Rattle.decisions.specs.Decided.{wait_of};
-ghost use Rattle.decisions.specs.Rows.{is_success};
-ghost use Rattle.semaphores.specs.Rows.{IsSemaphoreCall};
-ghost use Rattle.kernel_records.specs.Deciding.{content_after, decision_by, decision_of, own_change};
-ghost use Rattle.kernel_records.specs.Concluding.{awakened, awakened_all, concluded, outcome_of, waiting_from, IsSingle};
-ghost use Rattle.kernel_records.specs.ObjectView.{content_seen, objects_in};
+ghost use Rattle.std.specs.Prelude.{◌≡◌, ◌<◌, ◌≤◌, ◌++◌, All, length, slice_index, slice_set, true};
+ghost use Rattle.kern_base.specs.declared.outcomes.Decision.TheVariants.{Block, Wake};
+ghost use Rattle.kern_model.specs.State.{object_at, task_at};
+ghost use Rattle.kern_model.specs.Effect.{new_match, result_of, unmatched};
+ghost use Rattle.kern_model.specs.Services.{content_for};
+ghost use Rattle.decisions.specs.Decided.{bits_in, wait_of};
+ghost use Rattle.message_store.specs.Store.{queue_at};
+ghost use Rattle.kernel_records.specs.ObjectView.{content_seen};
+ghost use Rattle.kernel_records.specs.Served.{IsSingle, is_served_wait};
+ghost use Rattle.kernel_records.specs.Deciding.{IsCallOn, IsServedDecision, acts, content_after, decision_by, decision_of, free_after, object_change, own_change};
+ghost use Rattle.kernel_records.specs.Concluding.{AreSingle, answer_of, awakened_all, awakens, bits_left, concluded, given, looked_at, looked_at_all, objects_waited, outcome_of, waiting_from};
 
 use crate::changes::{answer_task, wait_for};
-use crate::objects::{Content, Object};
+use crate::objects::Content;
 use crate::records::Records;
+use crate::task_calls::{is_task_call, target};
 use arrayvec::ArrayVec;
-use decisions::success;
-use kern_base::{Around, Decision, OsErr, Outcome, Request, TaskId};
+use decisions::{handed, reply, success};
+use event_flags::FlagGroup;
+use kern_base::{Answer, Around, Decision, ObjId, OsErr, Outcome, Request, TaskId, Who};
+use message_store::MessageStore;
 
 impl Records {
-    /// Makes what was decided of a call: the object changes, tasks are woken in this order, or the caller waits.
+    /// Makes what was decided of a call: what the call is about changes, tasks are woken in this order, or looked at by a post of
+    /// event flags, or the caller waits.
     pub fn conclude(
         &mut self,
         request: &Request,
@@ -30,102 +34,176 @@ impl Records {
     ) -> Outcome
         requires caller { seen.now.caller.0 < 64 }
         requires decided { decision.now ≡ decision_of request.now seen.now self.old.state }
+        requires served { IsServedDecision decision.now request.now.service }
         requires woken { All (λ x. x < 64) woken.now }
-        requires single { (x : ℕ) → x < 64 → IsSingle (task_at self.old.state x).waiting }
+        requires few { length woken.now ≤ 64 }
+        requires single { AreSingle self.old.state }
         requires room { decision.now ≡ Block → length self.old.state.matches < 64 }
-        requires objects { length self.old.state.objects ≤ 64 }
+        requires objects { All (λ o. o < 64) (objects_waited decision.now request.now) }
         ensures records { self.new ≡ record self.old { state = concluded decision.now request.now seen.now.caller.0 woken.now self.old.state } }
-        ensures outcome { result ≡ outcome_of decision.now request.now.service (length woken.now) }
+        ensures outcome { result ≡ outcome_of decision.now request.now (length woken.now) (bits_left request.now seen.now.caller.0 decision.now self.old.state) }
     {
         match decision {
             Decision::Done(answer) => {
-                self.apply(request, seen, decision);
+                if answer.err == OsErr::NoError {
+                    self.apply(request, seen, decision);
+                }
                 Outcome::Answered(*answer, None)
             }
             Decision::Block => {
                 self.wait(seen.caller, request);
                 Outcome::Waits
             }
-            Decision::Wake(_) => {
-                self.wake_all(request, woken);
-                Outcome::Answered(success(0), None)
+            Decision::Wake(who) => {
+                self.apply(request, seen, decision);
+                Outcome::Answered(self.wake_some(request, *who, woken), None)
             }
         }
     }
-}
 
-impl Records {
-    // The change of the object itself, where its call is answered.
+    // The change of what a call is about, which is not refused: the own semaphore or queue of a task, or the object that it names.
     fn apply(&mut self, request: &Request, seen: &Around, decision: &Decision)
+        requires caller { seen.now.caller.0 < 64 }
         requires decided { decision.now ≡ decision_of request.now seen.now self.old.state }
-        ensures { self.new ≡ record self.old { state = own_change request.now decision.now self.old.state } }
+        requires acts { acts decision.now ≡ true }
+        ensures { self.new ≡ record self.old { state = own_change request.now seen.now.caller.0 decision.now self.old.state } }
     {
-        if is_success(decision) && (request.args[0] as usize) < self.objects.len() {
-            apply_at(&mut self.objects, request, seen, decision);
+        if is_task_call(request.service) {
+            self.messages
+                .apply_own(target(request, seen.caller), request, seen, decision);
+        } else {
+            self.apply_to_object(request, seen, decision);
         }
+    }
+
+    // The change of the object that a call names.
+    fn apply_to_object(&mut self, request: &Request, seen: &Around, decision: &Decision)
+        requires object { slice_index request.now.args 0 < length self.old.state.objects }
+        requires call { IsCallOn (content_for request.now self.old.state) request.now }
+        requires decided { decision.now ≡ decision_by (content_for request.now self.old.state) self.old.state.free request.now seen.now }
+        ensures { self.new ≡ record self.old { state = object_change request.now decision.now self.old.state } }
+    {
+        let number = request.args[0] as usize;
+        let object = &mut self.objects[number];
+        apply_to(
+            &mut object.content,
+            &mut self.messages,
+            ObjId(number as u8),
+            request,
+            seen,
+            decision,
+        );
     }
 
     // The caller waits from now on, and where its timeout is not 0 it gets a match.
     fn wait(&mut self, caller: TaskId, request: &Request)
         requires caller { caller.0 < 64 }
-        requires service { request.now.service ≡ SemPend }
-        requires object { slice_index request.now.args 0 < 64 }
+        requires service { is_served_wait request.now.service ≡ true }
+        requires objects { All (λ o. o < 64) (wait_of request.now.service request.now).objects }
         requires room { length self.old.state.matches < 64 }
         ensures { self.new ≡ record self.old { state = waiting_from caller.0 (wait_of request.now.service request.now) self.old.state } }
     {
-        wait_for(&mut self.tasks, caller, request);
-        add_match(&mut self.matches, caller.0, request.args[1], self.ticks);
+        let timeout = wait_for(&mut self.tasks, caller, request);
+        add_match(&mut self.matches, caller.0, timeout, self.ticks);
     }
 
-    // Tasks wait no more, in this order, and the result of a post waits for each.
-    fn wake_all(&mut self, request: &Request, woken: &[u8])
-        requires service { request.now.service ≡ SemPost }
+    // Wakes these tasks, or looks at them for a post of event flags. Gives the answer of the call.
+    fn wake_some(&mut self, request: &Request, who: Who, woken: &[u8]) -> Answer
+        requires service { IsServedDecision (Wake who) request.now.service }
         requires woken { All (λ x. x < 64) woken.now }
-        requires single { (x : ℕ) → x < 64 → IsSingle (task_at self.old.state x).waiting }
-        ensures { self.new ≡ record self.old { state = awakened_all request.now woken.now self.old.state } }
+        requires few { length woken.now ≤ 64 }
+        requires single { AreSingle self.old.state }
+        ensures records { self.new ≡ record self.old { state = awakens who request.now woken.now self.old.state } }
+        ensures answer { result ≡ answer_of who request.now (length woken.now) (bits_in (content_for request.now self.old.state)) }
     {
-        for task in woken {
-            self.wake(request, TaskId(*task));
+        match who {
+            Who::Matching => {
+                let bits = self.bits_of(request.args[0]);
+                self.look_at_all(bits, woken);
+                success(bits)
+            }
+            _ => {
+                self.wake_all(request, woken);
+                reply(request.service, woken.len() as u32)
+            }
         }
     }
 
-    fn wake(&mut self, request: &Request, task: TaskId)
-        requires service { request.now.service ≡ SemPost }
+    // The bits of the event flag group of this number; 0 where there is none.
+    fn bits_of(&self, number: u32) -> u32
+        ensures { result ≡ bits_in (object_at self.now.state number).content }
+    {
+        match self.objects.get(number as usize) {
+            Some(object) => object.content.bits(),
+            None => 0,
+        }
+    }
+
+    // Tasks wait no more, in this order, and the result of the call waits for each.
+    fn wake_all(&mut self, request: &Request, woken: &[u8])
+        requires woken { All (λ x. x < 64) woken.now }
+        requires single { AreSingle self.old.state }
+        ensures { self.new ≡ record self.old { state = awakened_all request.now woken.now self.old.state } }
+    {
+        let answer = handed(request);
+        for task in woken {
+            self.give(TaskId(*task), answer);
+        }
+    }
+
+    // Each waiter for event flags is looked at, in this order: it waits no more where it has ready bits, and these wait for it.
+    fn look_at_all(&mut self, bits: u32, woken: &[u8])
+        requires woken { All (λ x. x < 64) woken.now }
+        requires single { AreSingle self.old.state }
+        ensures { self.new ≡ record self.old { state = looked_at_all bits woken.now self.old.state } }
+    {
+        for task in woken {
+            self.look_at(bits, TaskId(*task));
+        }
+    }
+
+    fn look_at(&mut self, bits: u32, task: TaskId)
         requires task { task.0 < 64 }
         requires single { IsSingle (task_at self.old.state task.0).waiting }
-        ensures { self.new ≡ record self.old { state = awakened request.now task.0 self.old.state } }
+        ensures { self.new ≡ record self.old { state = looked_at bits task.0 self.old.state } }
     {
-        let _ = request;
-        answer_task(&mut self.tasks, task, success(0));
+        let tcb = self.tasks.get(task);
+        if let Some(ready) = FlagGroup::ready_bits(bits, tcb.mask, tcb.opt) {
+            self.give(task, success(ready));
+        }
+    }
+
+    // The task waits no more, and a result with this answer waits for it.
+    fn give(&mut self, task: TaskId, answer: Answer)
+        requires task { task.0 < 64 }
+        requires single { IsSingle (task_at self.old.state task.0).waiting }
+        ensures { self.new ≡ record self.old { state = given task.0 (result_of answer) self.old.state } }
+    {
+        answer_task(&mut self.tasks, task, answer);
         drop_match(&mut self.matches, task.0);
     }
 }
 
-// Whether a call is answered without an error.
-fn is_success(decision: &Decision) -> bool
-    ensures { result ≡ is_success decision.now }
+// The change of an object by a call on it. The messages of a queue stand in the store.
+fn apply_to(
+    content: &mut Content,
+    messages: &mut MessageStore,
+    object: ObjId,
+    request: &Request,
+    seen: &Around,
+    decision: &Decision,
+)
+    requires number { object.0 < length messages.old.queues }
+    requires call { IsCallOn (content_seen (queue_at messages.old object.0) content.old) request.now }
+    requires decided { decision.now ≡ decision_by (content_seen (queue_at messages.old object.0) content.old) messages.old.free request.now seen.now }
+    ensures content { content_seen (queue_at messages.new object.0) content.new ≡ content_after request.now decision.now (content_seen (queue_at messages.old object.0) content.old) }
+    ensures messages { messages.new ≡ record messages.old { queues = slice_set messages.old.queues object.0 (queue_at messages.new object.0); free = free_after request.now decision.now (content_seen (queue_at messages.old object.0) content.old) messages.old.free } }
 {
-    matches!(decision, Decision::Done(answer) if answer.err == OsErr::NoError)
-}
-
-// The change of the object that a call names, where it is answered without an error.
-fn apply_at(objects: &mut [Object], request: &Request, seen: &Around, decision: &Decision)
-    requires object { slice_index request.now.args 0 < length objects.old }
-    requires decided { decision.now ≡ decision_by (object_in (objects_in objects.old) (slice_index request.now.args 0)).content request.now seen.now }
-    requires semaphore { IsSemaphoreCall request.now }
-    ensures { objects_in objects.new ≡ update_object (objects_in objects.old) (slice_index request.now.args 0) (λ b. record b { content = content_after request.now.service decision.now b.content }) }
-{
-    let object = &mut objects[request.args[0] as usize];
-    apply_to(&mut object.content, request, seen, decision);
-}
-
-fn apply_to(content: &mut Content, request: &Request, seen: &Around, decision: &Decision)
-    requires decided { decision.now ≡ decision_by (content_seen content.old) request.now seen.now }
-    requires semaphore { IsSemaphoreCall request.now }
-    ensures { content_seen content.new ≡ content_after request.now.service decision.now (content_seen content.old) }
-{
-    if let Content::Semaphore(sem) = content {
-        sem.apply(request, seen, decision);
+    match content {
+        Content::Semaphore(sem) => sem.apply(request, seen, decision),
+        Content::Messages => messages.apply(object, request, seen, decision),
+        Content::Flags(group) => group.apply(request, seen, decision),
+        _ => {}
     }
 }
 

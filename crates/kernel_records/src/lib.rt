@@ -9,6 +9,8 @@ mod laws;
 mod objects;
 mod records;
 mod starting;
+mod task_calls;
 
 pub use laws::{a_decision_has_its_outcome, a_decision_is_concluded};
 pub use records::Records;
+pub use task_calls::is_task_call;

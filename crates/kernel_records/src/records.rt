@@ -1,24 +1,28 @@
 // The records of the kernel.
 
-ghost use Rattle.std.specs.Prelude.{◌≡◌, ◌<◌, true, false, IfOk, Some, List, map, slice_set, slice_index_or};
+ghost use Rattle.std.specs.Prelude.{◌≡◌, ◌<◌, true, IfOk, Some, List, length, map, slice_set, slice_index_or};
 ghost use Rattle.kern_model.specs.State.{Task, task_at, is_ready, kinds_of};
 ghost use Rattle.kern_model.specs.Valid.{has_result};
-ghost use Rattle.kern_model.specs.Finish.{finished};
+ghost use Rattle.kern_model.specs.Finish.{consumed_in, consumed_object, finished, flags_consumed};
+ghost use Rattle.machine_model.specs.Answers.{size_of, with_answer};
+ghost use Rattle.message_store.specs.Store.{HeldQueue};
+ghost use Rattle.kernel_records.specs.ObjectView.{object_seen, objects_in};
+ghost use Rattle.kernel_records.specs.TaskChanges.{took_flags};
 ghost use Rattle.kern_model.specs.Stop.{stopped};
 ghost use Rattle.machine_model.specs.Steps.{some_readied};
-ghost use Rattle.tcb_pool.specs.TaskView.{task_of};
+ghost use Rattle.tcb_pool.specs.TaskView.{task_of, without_own};
 ghost use Rattle.rv32_exec.specs.Exec.{exec};
 ghost use Rattle.rv32_exec.specs.Registers.{no_registers};
 ghost use Rattle.kernel_records.specs.RecordsRecord.{records_at_start, without_lists};
-ghost use Rattle.kernel_records.specs.Served.{IsServedResult};
 
 use crate::changes::{clear_result, stop_task};
-use crate::objects::Object;
+use crate::objects::{Content, Object};
 use crate::starting::{start_kinds, start_objects};
 use app_image::Image;
 use arrayvec::ArrayVec;
-use kern_base::{Finished, Kinds, NoMemory, Prio, TaskId};
-use rv32_exec::{Program, Ram, Regs, Stepped};
+use kern_base::{Answer, Finished, Kinds, NoMemory, OsErr, Prio, Service, TaskId};
+use message_store::MessageStore;
+use rv32_exec::{Program, Ram, Stepped};
 use std::alloc::Global;
 use std::marker::Model;
 use tcb_pool::{Tcb, Tcbs};
@@ -48,7 +52,7 @@ pub struct Records {
     pub(crate) processing: bool,
     pub(crate) in_callback: bool,
     pub(crate) lock: u8,
-    pub(crate) free: u32,
+    pub(crate) messages: MessageStore,
     pub(crate) settings: Settings,
 }
 
@@ -57,11 +61,11 @@ impl Model for Records {
 
     ghost Value = { RecordsRecord };
 
-    ghost use Rattle.kernel_records.specs.RecordsView.{records_of, KnowsKinds};
+    ghost use Rattle.kernel_records.specs.RecordsView.{records_of, IsSound};
 
     ghost view = { records_of };
 
-    ghost invariant = { KnowsKinds };
+    ghost invariant = { IsSound };
 }
 
 impl Records {
@@ -83,7 +87,7 @@ impl Records {
             processing: false,
             in_callback: false,
             lock: 0,
-            free: config.pool,
+            messages: MessageStore::new(alloc, image)?,
             settings: Settings {
                 tasks: image.tasks().len() as u8,
                 round_robin: config.round_robin == 1,
@@ -107,18 +111,19 @@ impl Records {
         self.lock
     }
 
-    /// The records of all tasks.
+    /// The records of all tasks, which have no part in their own semaphores and queues.
     pub fn tasks(&self) -> &Tcbs
-        ensures tasks { result.now.tasks ≡ self.now.state.tasks }
+        ensures tasks { result.now.tasks ≡ map without_own self.now.state.tasks }
         ensures registers { result.now.registers ≡ self.now.registers }
     {
+        self.tasks.stand_alone();
         &self.tasks
     }
 
     /// The record of a task.
     pub fn tcb(&self, task: TaskId) -> &Tcb
         requires { task.0 < 64 }
-        ensures task { task_of result.now ≡ task_at self.now.state task.0 }
+        ensures task { task_of result.now ≡ without_own (task_at self.now.state task.0) }
         ensures registers { result.now.regs ≡ slice_index_or self.now.registers task.0 no_registers }
     {
         self.tasks.get(task)
@@ -149,25 +154,46 @@ impl Records {
         self.tasks.run(task, program, ram)
     }
 
-    /// Writes the registers of a task, and changes nothing else.
-    pub fn set_regs(&mut self, task: TaskId, regs: Regs)
+    /// Writes the answer of a call into the registers of a task, where they stand, and changes nothing else. Gives the size of a
+    /// message, of a call that takes one.
+    pub fn answer(&mut self, task: TaskId, service: Service, answer: Answer) -> Option<u32>
         requires { task.0 < 64 }
-        ensures { self.new ≡ record self.old { registers = slice_set self.old.registers task.0 regs } }
+        ensures size { result ≡ size_of service answer }
+        ensures registers { self.new ≡ record self.old { registers = slice_set self.old.registers task.0 (with_answer service answer (slice_index_or self.old.registers task.0 no_registers)) } }
     {
-        self.tasks.set_regs(task, regs);
+        self.tasks.answer(task, service, answer)
     }
 
     /// What the first action of a task after its wait does: gives the result that waits for it, which is then gone.
     pub fn take_result(&mut self, task: TaskId) -> Finished
         requires task { task.0 < 64 }
         requires waits { has_result (task_at self.old.state task.0).answered ≡ true }
-        requires served { IsServedResult (task_at self.old.state task.0).answered }
         ensures result { (task_at self.old.state task.0).answered ≡ Some result }
         ensures records { self.new ≡ record self.old { state = finished task.0 self.old.state } }
     {
-        let result = self.tasks.get(task).result.unwrap();
+        let Some(result) = self.tasks.get(task).result else {
+            unreachable!();
+        };
+        self.consume(task, &result);
         clear_result(&mut self.tasks, task);
         result
+    }
+
+    // A wait for event flags that succeeded consumes the bits with which it was woken, unless the group is deleted.
+    fn consume(&mut self, task: TaskId, res: &Finished)
+        requires { task.0 < 64 }
+        ensures { self.new ≡ record self.old { state = record self.old.state { objects = flags_consumed res.now.service res.now.answer.err (task_at self.old.state task.0) res.now.answer.value self.old.state.objects } } }
+    {
+        if !took_flags(res) {
+            return;
+        }
+        let tcb = self.tasks.get(task);
+        consume_in(
+            &mut self.objects,
+            &tcb.ids[..tcb.n_ids as usize],
+            res.answer.value,
+            tcb.opt,
+        );
     }
 
     /// A trap of a task, which stops for good. The scheduler is then not locked.
@@ -177,5 +203,39 @@ impl Records {
     {
         stop_task(&mut self.tasks, task);
         self.lock = 0;
+    }
+}
+
+// Whether a result is that of a wait for event flags that succeeded.
+fn took_flags(res: &Finished) -> bool
+    ensures { result ≡ took_flags res.now.service res.now.answer.err }
+{
+    matches!(res.service, Service::FlagPend) && matches!(res.answer.err, OsErr::NoError)
+}
+
+// The ready bits of a wait are consumed, where the first of these is its event flag group.
+fn consume_in(objects: &mut [Object], ids: &[u8], ready: u32, option: u32)
+    ensures size { length objects.new ≡ length objects.old }
+    ensures objects { (qs : List HeldQueue) → objects_in qs objects.new ≡ consumed_in ids.now ready option (objects_in qs objects.old) }
+{
+    let Some(number) = ids.first() else {
+        return;
+    };
+    let number = *number as usize;
+    if number >= objects.len() {
+        return;
+    }
+    consume_bits(&mut objects[number], ready, option);
+}
+
+// The same of an object, unless it is deleted.
+fn consume_bits(object: &mut Object, ready: u32, option: u32)
+    ensures { (q : HeldQueue) → object_seen q object.new ≡ consumed_object ready option (object_seen q object.old) }
+{
+    if object.deleted {
+        return;
+    }
+    if let Content::Flags(group) = &mut object.content {
+        group.consume(ready, option);
     }
 }

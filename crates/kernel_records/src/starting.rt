@@ -2,18 +2,20 @@
 
 ghost use Rattle.std.specs.Prelude.{◌≡◌, ◌≤◌, length, map, IfOk};
 ghost use Rattle.kern_model.specs.Start.{object_of, timer_of};
-ghost use Rattle.kernel_records.specs.ObjectView.{object_seen, objects_in, timer_seen};
+ghost use Rattle.kernel_records.specs.ObjectView.{declared_queue, object_seen, objects_in, timer_seen};
 
 use crate::objects::{Content, Object, Timer};
 use app_image::ObjDef;
 use arrayvec::ArrayVec;
+use event_flags::FlagGroup;
 use kern_base::{Kind, Kinds, NoMemory};
 use semaphores::Sem;
 use std::alloc::Global;
 
 // The objects as they were declared.
 pub(crate) fn start_objects(alloc: Global, defs: &[ObjDef]) -> Result<Vec<Object>, NoMemory>
-    ensures { IfOk result (λ v. objects_in v.items ≡ map object_of defs.now) }
+    ensures size { IfOk result (λ v. length v.items ≡ length defs.now) }
+    ensures objects { IfOk result (λ v. objects_in (map declared_queue defs.now) v.items ≡ map object_of defs.now) }
 {
     let mut objects = Vec::new(alloc);
     for def in defs {
@@ -37,15 +39,15 @@ pub(crate) fn start_kinds(defs: &[ObjDef], tasks: u8) -> Kinds
     Kinds::new(kinds, tasks)
 }
 
-// An object as it was declared.
+// An object as it was declared; the messages of a queue stand in the store.
 fn start_object(def: &ObjDef) -> Object
-    ensures { object_seen result ≡ object_of def.now }
+    ensures { object_seen (declared_queue def.now) result ≡ object_of def.now }
 {
     let first = def.f[0];
     let content = match def.kind {
         Kind::Sem => Content::Semaphore(Sem { count: first }),
-        Kind::Queue => Content::Messages(first),
-        Kind::Flags => Content::Bits(first),
+        Kind::Queue => Content::Messages,
+        Kind::Flags => Content::Flags(FlagGroup { bits: first }),
         Kind::Mutex => Content::Free,
         Kind::OneShot => Content::Timed(start_timer(false, &def.f)),
         Kind::Periodic => Content::Timed(start_timer(true, &def.f)),

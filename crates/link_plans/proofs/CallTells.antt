@@ -10,16 +10,20 @@ use Rattle.kern_base.specs.declared.outcomes.Finished.{Finished}
 use Rattle.kern_base.specs.declared.outcomes.Waiting.{Waiting}
 use Rattle.kern_base.specs.declared.outcomes.Waiting.TheVariants.{Obj}
 use Rattle.kern_base.specs.declared.outcomes.Who.{Who}
+use Rattle.kern_base.specs.declared.outcomes.Who.TheVariants.{First, All as Every, Matching}
 use Rattle.kern_base.specs.declared.services.Service.TheVariants.{MutexPend}
 use Rattle.kern_model.specs.State.{Kernel, Task, Content, Held, no_task, object_at, task_at, prio_of, waits_for_nothing}
 use Rattle.kern_model.specs.Effect.{Wait, answered_task, blocked, waiting_task, wakes, wakes_all}
+use Rattle.kern_model.specs.Flags.{flag_wakes_all}
 use Rattle.kern_model.specs.Inherit.{inherited, least_of, living, numbers, owner_for, owner_in, reaches, reaches_by, waits_on}
 use Rattle.kern_model.proofs.Basics.Updates.{objects-wakes, prio_of-wakes, task-other, task-updated, update_task_same}
 use Rattle.kern_model.proofs.Linked.Wakes.{self_equal}
 use Rattle.link_plans.specs.declared.plan.Plan.{Plan}
+use Rattle.link_plans.specs.Matching.{flag_result, holds_on, matching}
 use Rattle.link_plans.specs.Told.{free_after, living_standing, standing_by}
 use Rattle.link_plans.specs.AfterCalls.{TellsAfter}
 use Rattle.link_plans.specs.Renewals.{KnowObjects}
+use Rattle.link_plans.proofs.MatchFacts.{any-matching, are_wakes}
 
 and_false : (b : Bool) → (b && false) ≡ false
 and_false true = refl
@@ -46,7 +50,7 @@ block_tells q k w e waits inside =
     record {
       stands = λ x.
           let t = task_at k x in let free = waits_for_nothing t.waiting in
-          ap (λ d. by t (free_after d c q.woken.items x free)) e
+          ap (λ d. by t (free_after d c q.woken.items x free (holds_on q.bits t))) e
           ∙ elim (eqb_tells x c) [
             | inl s ↦
                 ap (λ b. by t (free && not b)) s.0 ∙ ap (by t) (and_false free ∙ sym waits)
@@ -103,13 +107,37 @@ pub objects-woken : (f : Task → Finished) (h : ℕ) (xs : List ℕ) (k : Kerne
 objects-woken f h [] k x = refl
 objects-woken f h (y ∷ ys) k x = objects-woken f h ys (wakes (f (task_at k y)) h y k) x ∙ objects-wakes (f (task_at k y)) h y k x
 
-pub wakes_tell : (q : Plan) (f : Task → Finished) (h : ℕ) (k : Kernel) (who : Who) → q.decision ≡ Wake who → TellsAfter q k.tasks (wakes_all f h q.woken.items k).tasks
-wakes_tell q f h k who e =
+-- all that are named are woken
+all_free : (w : Who) (caller x : ℕ) (xs : List ℕ) (free holds : Bool) → (w ≡ Matching → ⊥) → free_after (Wake w) caller xs x free holds ≡ (free || list_any (λ y. y == x) xs)
+all_free First caller x xs free holds other = refl
+all_free Every caller x xs free holds other = refl
+all_free Matching caller x xs free holds other = absurd (other refl)
+
+pub wakes_tell : (q : Plan) (f : Task → Finished) (h : ℕ) (k : Kernel) (who : Who) → q.decision ≡ Wake who → (who ≡ Matching → ⊥) → TellsAfter q k.tasks (wakes_all f h q.woken.items k).tasks
+wakes_tell q f h k who e other =
     record {
       stands = λ x.
-          let t = task_at k x in
-          ap (λ d. standing_by t.alive (free_after d q.caller.0 q.woken.items x (waits_for_nothing t.waiting)) t.suspended) e ∙ sym (wakes_stand f h q.woken.items k x);
+          let t = task_at k x in let free = waits_for_nothing t.waiting in let holds = holds_on q.bits t in
+          ap (λ d. standing_by t.alive (free_after d q.caller.0 q.woken.items x free holds) t.suspended) e
+          ∙ ap (λ b. standing_by t.alive b t.suspended) (all_free who q.caller.0 x q.woken.items free holds other)
+          ∙ sym (wakes_stand f h q.woken.items k x);
       present = λ x. sym (prio-woken f h q.woken.items k x);
+    }
+
+-- those whose condition holds are woken
+pub matching_tell : (q : Plan) (h : ℕ) (k : Kernel) → q.decision ≡ Wake Matching → TellsAfter q k.tasks (flag_wakes_all q.bits h q.woken.items k).tasks
+matching_tell q h k e =
+    let xs = matching k.tasks q.bits q.woken.items in
+    let f = flag_result q.bits in
+    let is : flag_wakes_all q.bits h q.woken.items k ≡ wakes_all f h xs k = are_wakes q.bits h q.woken.items k in
+    record {
+      stands = λ x.
+          let t = task_at k x in let free = waits_for_nothing t.waiting in
+          ap (λ d. standing_by t.alive (free_after d q.caller.0 q.woken.items x free (holds_on q.bits t)) t.suspended) e
+          ∙ ap (λ b. standing_by t.alive (free || b) t.suspended) (sym (any-matching k.tasks q.bits x q.woken.items))
+          ∙ sym (wakes_stand f h xs k x)
+          ∙ ap (λ (j : Kernel). living_standing (task_at j x)) (sym is);
+      present = λ x. sym (ap (λ (j : Kernel). prio_of j x) is ∙ prio-woken f h xs k x);
     }
 
 -- The inherited priority of a task does not depend on what it waits for itself.

@@ -13,6 +13,8 @@ pub mod MovesHold
 pub mod RenewalFits
 pub mod Follows
 pub mod ToldFacts
+pub mod MatchFacts
 pub mod CallTells
+pub mod MatchLaws
 pub mod CallRenews
 pub mod MovesWritten

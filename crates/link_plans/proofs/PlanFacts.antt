@@ -1,79 +1,133 @@
 -- The blocks of a plan, one after another.
-use Rattle.std.proofs.Common.{◌≡◌, ℕ, zero, suc, ◌+◌, ◌-◌, ◌*◌, ◌<◌, ◌≤◌, List, [], ◌∷◌, ◌++◌, length, drop, get_or, refl, sym, ap, ◌∙◌, arith, add-one}
+use Rattle.std.proofs.Common.{◌≡◌, ℕ, zero, suc, ◌+◌, ◌-◌, ◌*◌, ◌<◌, ◌≤◌, Bool, Option, Some, None, List, [], ◌∷◌, ◌++◌, length, drop, get_or, refl, sym, ap, ◌∙◌, arith, add-one, append_assoc}
 use Rattle.std.proofs.Math.Nat.{not-suc-le-zero}
 use Rattle.std.proofs.Math.Seq.{drop-cons}
-use Rattle.std.specs.Prelude.{◌==◌}
+use Rattle.std.specs.Prelude.{◌==◌, slice_get}
+use Rattle.kern_base.specs.declared.outcomes.Who.{Who}
+use Rattle.kern_base.specs.declared.outcomes.Who.TheVariants.{First, All as Every, Matching}
 use Rattle.kern_model.specs.State.{Task, task_in}
 use Rattle.micro_steps.specs.declared.link.Link.{Link}
 use Rattle.micro_steps.specs.declared.link.Link.TheVariants as link
-use Rattle.link_plans.specs.Plans.{leave_links, ready_links, wakes_links, wakes_left, wait_links, block_links}
+use Rattle.link_plans.specs.declared.plan.Plan.{Plan}
+use Rattle.link_plans.specs.Plans.{leave_links, ready_links, wake_links, wakes_links, wakes_left, look_links, matching_links, matching_left, woken_left, woken_links, wait_links, block_links}
+use Rattle.link_plans.proofs.MoveFacts.{next_of_some, next_of_none}
 
-next_of : (x i made : ℕ) (os : List ℕ) → made < length os → drop made (leave_links x i os) ≡ link.Leave (8 * x + (i + made)) (record { 0 = get_or os made 0 }) ∷ drop (suc made) (leave_links x i os)
-next_of x i made [] h = absurd (not-suc-le-zero {n = made} (omega (arith, h)))
-next_of x i zero (o ∷ os) h = let e : i + 0 ≡ i = omega arith in rw e refl
-next_of x i (suc made) (o ∷ os) h = let e : i + suc made ≡ (i + 1) + made = omega arith in rw e (next_of x (i + 1) made os (omega (arith, h)))
+-- the links of a wake
+
+leave_in : (x i made : ℕ) (os : List ℕ) (ks : List Link) → made < length os → slice_get (leave_links x i os ++ ks) made ≡ Some (link.Leave (8 * x + (i + made)) (record { 0 = get_or os made 0 }))
+leave_in x i made [] ks h = absurd (not-suc-le-zero {n = made} (omega (arith, h)))
+leave_in x i zero (o ∷ os) ks h = let e : i + 0 ≡ i = omega arith in rw e refl
+leave_in x i (suc made) (o ∷ os) ks h = let e : i + suc made ≡ (i + 1) + made = omega arith in rw e (leave_in x (i + 1) made os ks (omega (arith, h)))
 
 -- the next object is left
-pub leave_next : (x made : ℕ) (os : List ℕ) → made < length os → drop made (leave_links x 0 os) ≡ link.Leave (8 * x + made) (record { 0 = get_or os made 0 }) ∷ drop (made + 1) (leave_links x 0 os)
-leave_next x made os h =
-    let e : 0 + made ≡ made = omega arith in
-    rw add-one (next_of x 0 made os h ∙ ap (λ m. link.Leave (8 * x + m) (record { 0 = get_or os made 0 }) ∷ drop (suc made) (leave_links x 0 os)) e)
+pub leave_at : (x made node o h : ℕ) (t : Task) (os : List ℕ) → t.objects ≡ os → made < length os → node ≡ 8 * x + made → o ≡ get_or os made 0 → Some (link.Leave node (record { 0 = o })) ≡ slice_get (wake_links x h t) made
+leave_at x made node o h t os these some number is =
+    let ready = ready_links t.suspended x t.prio h in
+    let same : 8 * x + (0 + made) ≡ node = omega (arith, number) in
+    sym (ap (λ ids. slice_get (leave_links x 0 ids ++ ready) made) these
+    ∙ leave_in x 0 made os ready some
+    ∙ ap (λ m. Some (link.Leave m (record { 0 = get_or os made 0 }))) same
+    ∙ ap (λ q. Some (link.Leave node (record { 0 = q }))) (sym is))
 
-none_of : (x i made : ℕ) (os : List ℕ) → length os ≤ made → drop made (leave_links x i os) ≡ []
-none_of x i zero [] h = refl
-none_of x i (suc made) [] h = refl
-none_of x i zero (o ∷ os) h = absurd (not-suc-le-zero {n = 0} (omega (arith, h)))
-none_of x i (suc made) (o ∷ os) h = none_of x (i + 1) made os (omega (arith, h))
+past_leaves : (x i more : ℕ) (os : List ℕ) (ks : List Link) → slice_get (leave_links x i os ++ ks) (length os + more) ≡ slice_get ks more
+past_leaves x i more [] ks = let e : 0 + more ≡ more = omega arith in ap (slice_get ks) e
+past_leaves x i more (o ∷ os) ks =
+    let e : suc (length os) + more ≡ suc (length os + more) = omega arith in
+    ap (slice_get (leave_links x i (o ∷ os) ++ ks)) e ∙ past_leaves x (i + 1) more os ks
 
--- all are left
-pub leave_none : (x made : ℕ) (os : List ℕ) → length os ≤ made → drop made (leave_links x 0 os) ≡ []
-leave_none x made os h = none_of x 0 made os h
+past : (x h : ℕ) (t : Task) (os : List ℕ) (made more : ℕ) → t.objects ≡ os → made ≡ length os + more → slice_get (wake_links x h t) made ≡ slice_get (ready_links t.suspended x t.prio h) more
+past x h t os made more these e =
+    let ready = ready_links t.suspended x t.prio h in
+    ap (λ ids. slice_get (leave_links x 0 ids ++ ready) made) these ∙ ap (slice_get (leave_links x 0 os ++ ready)) e ∙ past_leaves x 0 more os ready
 
--- a task whose objects are all left
-pub wakes_next : (ts : List Task) (h made i : ℕ) (xs : List ℕ) → i < length xs → length (task_in ts (get_or xs i 0)).objects ≤ made → wakes_left ts h made (drop i xs) ≡ ready_links (task_in ts (get_or xs i 0)).suspended (get_or xs i 0) (task_in ts (get_or xs i 0)).prio h ++ wakes_left ts h 0 (drop (i + 1) xs)
-wakes_next ts h made i xs inside few =
-    let x = get_or xs i 0 in
-    let cons : drop i xs ≡ x ∷ drop (i + 1) xs = rw (add-one, drop-cons xs i 0) in
-    rw cons (ap (λ ks. ks ++ (ready_links (task_in ts x).suspended x (task_in ts x).prio h ++ wakes_links ts h (drop (i + 1) xs))) (leave_none x made (task_in ts x).objects few) ∙ ap (λ ks. ready_links (task_in ts x).suspended x (task_in ts x).prio h ++ ks) (sym (begun (drop (i + 1) xs))))
-  where
-    begun : (ys : List ℕ) → wakes_left ts h 0 ys ≡ wakes_links ts h ys
-    begun [] = refl
-    begun (y ∷ ys) = refl
+-- its objects are all left, and it is not suspended
+pub ready_at : (x made h : ℕ) (b : Bool) (t : Task) (os : List ℕ) → t.objects ≡ os → made ≡ length os → t.suspended ≡ 0 → b ≡ (t.prio == h) → Some (link.Ready (record { 0 = x }) (record { 0 = t.prio }) b) ≡ slice_get (wake_links x h t) made
+ready_at x made h b t os these all free is =
+    sym (past x h t os made 0 these (omega (arith, all))
+    ∙ ap (λ n. slice_get (ready_links n x t.prio h) 0) free
+    ∙ ap (λ c. Some (link.Ready (record { 0 = x }) (record { 0 = t.prio }) c)) (sym is))
 
--- the next object of a task
-pub wakes_leave : (ts : List Task) (h made i : ℕ) (xs : List ℕ) → i < length xs → made < length (task_in ts (get_or xs i 0)).objects → wakes_left ts h made (drop i xs) ≡ link.Leave (8 * get_or xs i 0 + made) (record { 0 = get_or (task_in ts (get_or xs i 0)).objects made 0 }) ∷ wakes_left ts h (made + 1) (drop i xs)
-wakes_leave ts h made i xs inside some =
-    let x = get_or xs i 0 in
-    let cons : drop i xs ≡ x ∷ drop (i + 1) xs = rw (add-one, drop-cons xs i 0) in
-    rw cons (ap (λ ks. ks ++ (ready_links (task_in ts x).suspended x (task_in ts x).prio h ++ wakes_links ts h (drop (i + 1) xs))) (leave_next x made (task_in ts x).objects some))
+no_ready : (n x p h more : ℕ) → (n ≡ 0 → more ≡ 0 → ⊥) → None ≡ slice_get (ready_links n x p h) more
+no_ready zero x p h zero never = absurd (never refl refl)
+no_ready zero x p h (suc more) never = refl
+no_ready (suc n) x p h more never = refl
 
--- the same, as the task's record says
-pub left_next : (ts : List Task) (h made i : ℕ) (xs d ids : List ℕ) (t : Task) (node : ℕ) → d ≡ xs → i < length xs → t ≡ task_in ts (get_or d i 0) → t.objects ≡ ids → made < length ids → node ≡ 8 * get_or d i 0 + made → wakes_left ts h made (drop i xs) ≡ link.Leave node (record { 0 = get_or ids made 0 }) ∷ wakes_left ts h (made + 1) (drop i xs)
-left_next ts h made i xs d ids t node same inside is objects some number =
-    let x = get_or xs i 0 in
-    let at : get_or d i 0 ≡ x = ap (λ ys. get_or ys i 0) same in
-    let these : (task_in ts x).objects ≡ ids = ap (λ y. (task_in ts y).objects) (sym at) ∙ ap (λ (u : Task). u.objects) (sym is) ∙ objects in
-    let long : made < length (task_in ts x).objects = rw these some in
-    let one : get_or (task_in ts x).objects made 0 ≡ get_or ids made 0 = ap (λ ys. get_or ys made 0) these in
-    let this : 8 * x + made ≡ node = omega (arith, at, number) in
-    wakes_leave ts h made i xs inside long ∙ ap (λ m. link.Leave m (record { 0 = get_or (task_in ts x).objects made 0 }) ∷ wakes_left ts h (made + 1) (drop i xs)) this ∙ ap (λ o. link.Leave node (record { 0 = o }) ∷ wakes_left ts h (made + 1) (drop i xs)) one
+-- no link of the wake is left
+pub wake_none : (x made h : ℕ) (t : Task) (os : List ℕ) → t.objects ≡ os → length os ≤ made → (t.suspended ≡ 0 → made ≡ length os → ⊥) → None ≡ slice_get (wake_links x h t) made
+wake_none x made h t os these few never =
+    let more = made - length os in
+    no_ready t.suspended x t.prio h more (λ free none. never free (omega (arith, few, none))) ∙ sym (past x h t os made more these (omega (arith, few)))
 
--- its objects are all left
-pub ready_next : (ts : List Task) (h made i : ℕ) (xs d ids : List ℕ) (t : Task) → d ≡ xs → i < length xs → t ≡ task_in ts (get_or d i 0) → t.objects ≡ ids → length ids ≤ made → wakes_left ts h made (drop i xs) ≡ ready_links t.suspended (get_or d i 0) t.prio h ++ wakes_left ts h 0 (drop (i + 1) xs)
-ready_next ts h made i xs d ids t same inside is objects few =
-    let x = get_or xs i 0 in
-    let at : get_or d i 0 ≡ x = ap (λ ys. get_or ys i 0) same in
-    let task : task_in ts x ≡ t = ap (task_in ts) (sym at) ∙ sym is in
-    let these : (task_in ts x).objects ≡ ids = ap (λ (u : Task). u.objects) task ∙ objects in
-    let short : length (task_in ts x).objects ≤ made = rw these few in
-    wakes_next ts h made i xs inside short ∙ ap (λ (u : Task). ready_links u.suspended x u.prio h ++ wakes_left ts h 0 (drop (i + 1) xs)) task ∙ ap (λ y. ready_links t.suspended y t.prio h ++ wakes_left ts h 0 (drop (i + 1) xs)) (sym at)
+-- the links of looking at a waiter
 
-pub ready_some : (n x p h : ℕ) (ks : List Link) → n ≡ 0 → ready_links n x p h ++ ks ≡ link.Ready (record { 0 = x }) (record { 0 = p }) (p == h) ∷ ks
-ready_some n x p h ks e = rw e refl
+pub look_first : (r : Option ℕ) (x h made : ℕ) (t : Task) → made ≡ 0 → Some link.Plain ≡ slice_get (look_links r x h t) made
+look_first None x h made t e = rw e refl
+look_first (Some ready) x h made t e = rw e refl
 
-pub ready_none : (n x p h : ℕ) → (n ≡ 0 → ⊥) → ready_links n x p h ≡ []
-ready_none zero x p h no_zero = absurd (no_zero refl)
-ready_none (suc n) x p h no_zero = refl
+pub look_none : (r : Option ℕ) (x h made : ℕ) (t : Task) → r ≡ None → (made ≡ 0 → ⊥) → None ≡ slice_get (look_links r x h t) made
+look_none r x h zero t e some = absurd (some refl)
+look_none r x h (suc made) t e some = rw e refl
+
+pub look_next : (r : Option ℕ) (ready x h made : ℕ) (t : Task) (link : Option Link) → r ≡ Some ready → (made ≡ 0 → ⊥) → link ≡ slice_get (wake_links x h t) (made - 1) → link ≡ slice_get (look_links r x h t) made
+look_next r ready x h zero t link e some is = absurd (some refl)
+look_next r ready x h (suc made) t link e some is = let one : suc made - 1 ≡ made = omega arith in rw e (is ∙ ap (slice_get (wake_links x h t)) one)
+
+-- What is left of links that are made task after task: `one` has those of a task, `all` those of several, and `left` what is left
+-- where so many of the first are made.
+module _ (one : ℕ → List Link) (all : List ℕ → List Link) (left : ℕ → List ℕ → List Link) (first : (made x : ℕ) (xs : List ℕ) → left made (x ∷ xs) ≡ drop made (one x) ++ all xs) (begun : (xs : List ℕ) → left 0 xs ≡ all xs) where
+  in_hand : (i : ℕ) (xs ds : List ℕ) → ds ≡ xs → i < length xs → drop i xs ≡ get_or ds i 0 ∷ drop (i + 1) xs
+  in_hand i xs ds same inside = rw (add-one, same) (drop-cons xs i 0 inside)
+
+  each_next : (made i : ℕ) (xs ds : List ℕ) (link : Link) → ds ≡ xs → i < length xs → Some link ≡ slice_get (one (get_or ds i 0)) made → left made (drop i xs) ≡ link ∷ left (made + 1) (drop i xs)
+  each_next made i xs ds link same inside e =
+      let x = get_or ds i 0 in let rest = drop (i + 1) xs in
+      rw (in_hand i xs ds same inside)
+      (first made x rest ∙ ap (λ ks. ks ++ all rest) (next_of_some (one x) made link e) ∙ ap (λ ks. link ∷ ks) (sym (first (made + 1) x rest)))
+
+  each_skip : (made i : ℕ) (xs ds : List ℕ) → ds ≡ xs → i < length xs → None ≡ slice_get (one (get_or ds i 0)) made → left 0 (drop (i + 1) xs) ≡ left made (drop i xs)
+  each_skip made i xs ds same inside e =
+      let x = get_or ds i 0 in let rest = drop (i + 1) xs in
+      rw (in_hand i xs ds same inside) (begun rest ∙ sym (first made x rest ∙ ap (λ ks. ks ++ all rest) (next_of_none (one x) made e)))
+
+-- none of their links are made
+pub wakes_begun : (ts : List Task) (h : ℕ) (xs : List ℕ) → wakes_left ts h 0 xs ≡ wakes_links ts h xs
+wakes_begun ts h [] = refl
+wakes_begun ts h (x ∷ xs) = let t = task_in ts x in append_assoc (leave_links x 0 t.objects) (ready_links t.suspended x t.prio h) (wakes_links ts h xs)
+
+pub matching_begun : (ts : List Task) (bits h : ℕ) (xs : List ℕ) → matching_left ts bits h 0 xs ≡ matching_links ts bits h xs
+matching_begun ts bits h [] = refl
+matching_begun ts bits h (x ∷ xs) = refl
+
+-- of tasks that are woken or looked at
+module _ (ts : List Task) (q : Plan) where
+  abbrev in_ts : Who → ℕ → List Link
+  in_ts w x = woken_links w q.bits q.compared.0 x (task_in ts x)
+
+  abbrev wakes_of : ℕ → List ℕ → List Link
+  wakes_of made xs = wakes_left ts q.compared.0 made xs
+
+  abbrev looks_of : ℕ → List ℕ → List Link
+  looks_of made xs = matching_left ts q.bits q.compared.0 made xs
+
+  -- the plan with so many links made of its i-th task
+  abbrev pub plan_at : ℕ → ℕ → Plan
+  plan_at i made = record q { task = i; made = made }
+
+  pub woken_next : (w : Who) (i made : ℕ) (ds : List ℕ) (t : Task) (link : Link) → ds ≡ q.woken.items → i < length q.woken.items → t ≡ task_in ts (get_or ds i 0) → Some link ≡ slice_get (woken_links w q.bits q.compared.0 (get_or ds i 0) t) made → woken_left w ts (plan_at i made) ≡ link ∷ woken_left w ts (plan_at i (made + 1))
+  woken_next w i made ds t link same inside is e = by_who w (e ∙ ap (λ u. slice_get (woken_links w q.bits q.compared.0 (get_or ds i 0) u) made) is)
+    where
+      by_who : (w : Who) → Some link ≡ slice_get (in_ts w (get_or ds i 0)) made → woken_left w ts (plan_at i made) ≡ link ∷ woken_left w ts (plan_at i (made + 1))
+      by_who First = each_next (in_ts First) (wakes_links ts q.compared.0) wakes_of (λ m x xs. refl) (wakes_begun ts q.compared.0) made i q.woken.items ds link same inside
+      by_who Every = each_next (in_ts Every) (wakes_links ts q.compared.0) wakes_of (λ m x xs. refl) (wakes_begun ts q.compared.0) made i q.woken.items ds link same inside
+      by_who Matching = each_next (in_ts Matching) (matching_links ts q.bits q.compared.0) looks_of (λ m x xs. refl) (matching_begun ts q.bits q.compared.0) made i q.woken.items ds link same inside
+
+  pub woken_skip : (w : Who) (i made : ℕ) (ds : List ℕ) (t : Task) → ds ≡ q.woken.items → i < length q.woken.items → t ≡ task_in ts (get_or ds i 0) → None ≡ slice_get (woken_links w q.bits q.compared.0 (get_or ds i 0) t) made → woken_left w ts (plan_at (i + 1) 0) ≡ woken_left w ts (plan_at i made)
+  woken_skip w i made ds t same inside is e = by_who w (e ∙ ap (λ u. slice_get (woken_links w q.bits q.compared.0 (get_or ds i 0) u) made) is)
+    where
+      by_who : (w : Who) → None ≡ slice_get (in_ts w (get_or ds i 0)) made → woken_left w ts (plan_at (i + 1) 0) ≡ woken_left w ts (plan_at i made)
+      by_who First = each_skip (in_ts First) (wakes_links ts q.compared.0) wakes_of (λ m x xs. refl) (wakes_begun ts q.compared.0) made i q.woken.items ds same inside
+      by_who Every = each_skip (in_ts Every) (wakes_links ts q.compared.0) wakes_of (λ m x xs. refl) (wakes_begun ts q.compared.0) made i q.woken.items ds same inside
+      by_who Matching = each_skip (in_ts Matching) (matching_links ts q.bits q.compared.0) looks_of (λ m x xs. refl) (matching_begun ts q.bits q.compared.0) made i q.woken.items ds same inside
 
 -- the caller waits for its next object
 waits_of : (x p i made : ℕ) (os : List ℕ) → made < length os → drop made (wait_links x p i os) ≡ link.Wait (8 * x + (i + made)) (record { 0 = p }) (record { 0 = get_or os made 0 }) ∷ drop (suc made) (wait_links x p i os)

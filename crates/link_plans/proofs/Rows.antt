@@ -15,11 +15,11 @@ use Rattle.link_plans.specs.Plans.{leave_links, ready_links, wakes_links, wait_l
 node_task : (x i : ℕ) → i < 8 → (8 * x + i) / 8 ≡ x
 node_task x i h = omega (arith, h)
 
-leaves-row : (prios : List Prio) (x i : ℕ) (os : List ℕ) (ks : List Link) → i + length os ≤ 8 → task_blocks prios (leave_links x i os ++ ks) ≡ leave_blocks x os ++ task_blocks prios ks
+pub leaves-row : (prios : List Prio) (x i : ℕ) (os : List ℕ) (ks : List Link) → i + length os ≤ 8 → task_blocks prios (leave_links x i os ++ ks) ≡ leave_blocks x os ++ task_blocks prios ks
 leaves-row prios x i [] ks h = refl
 leaves-row prios x i (o ∷ os) ks h = rw (node_task x i (omega (arith, h))) (ap (λ bs. leave x o ∷ bs) (leaves-row prios x (i + 1) os ks (omega (arith, h))))
 
-ready-row : (prios : List Prio) (n x p h : ℕ) (ks : List Link) → task_blocks prios (ready_links n x p h ++ ks) ≡ ready_blocks n x p h ++ task_blocks prios ks
+pub ready-row : (prios : List Prio) (n x p h : ℕ) (ks : List Link) → task_blocks prios (ready_links n x p h ++ ks) ≡ ready_blocks n x p h ++ task_blocks prios ks
 ready-row prios zero x p h ks = refl
 ready-row prios (suc n) x p h ks = refl
 

@@ -4,9 +4,11 @@ use Rattle.kern_base.specs.declared.numbers.Prio.{Prio}
 use Rattle.kern_base.specs.declared.outcomes.Decision.TheVariants.{Block, Wake}
 use Rattle.kern_base.specs.declared.outcomes.Finished.{Finished}
 use Rattle.kern_base.specs.declared.outcomes.Who.{Who}
+use Rattle.kern_base.specs.declared.outcomes.Who.TheVariants.{Matching}
 use Rattle.kern_model.specs.State.{Kernel, Task, task_at, task_in, prio_of, count_of, is_ready, waits_for_nothing}
 use Rattle.kern_model.specs.Micro.{Lists, lists_of}
 use Rattle.kern_model.specs.Effect.{Wait, block_blocks, blocked, wakes_all, wakes_blocks}
+use Rattle.kern_model.specs.Flags.{flag_wakes_all}
 use Rattle.kern_model.specs.Inherit.{inherited}
 use Rattle.kern_model.specs.Valid.{AllWait, IsLinked}
 use Rattle.micro_steps.specs.Blocks.{prio_in}
@@ -27,11 +29,17 @@ BlockTells =
     (q : Plan) (k : Kernel) (w : Wait) → q.decision ≡ Block → waits_for_nothing w.waiting ≡ false → q.caller.0 < length k.tasks →
     TellsAfter q k.tasks (blocked k q.caller.0 w).tasks
 
--- where tasks are woken
+-- where tasks are woken, the first or all
 abbrev pub WakesTell : Type 0
 WakesTell =
-    (q : Plan) (f : Task → Finished) (compared : ℕ) (k : Kernel) (who : Who) → q.decision ≡ Wake who →
+    (q : Plan) (f : Task → Finished) (compared : ℕ) (k : Kernel) (who : Who) → q.decision ≡ Wake who → (who ≡ Matching → ⊥) →
     TellsAfter q k.tasks (wakes_all f compared q.woken.items k).tasks
+
+-- and where they are looked at, by a post of event flags that leaves these bits
+abbrev pub MatchingTell : Type 0
+MatchingTell =
+    (q : Plan) (compared : ℕ) (k : Kernel) → q.decision ≡ Wake Matching →
+    TellsAfter q k.tasks (flag_wakes_all q.bits compared q.woken.items k).tasks
 
 -- A caller that waits at its inherited priority does not move; so the records tell the objects of all tasks that do.
 abbrev pub BlockKnowsObjects : Type 0

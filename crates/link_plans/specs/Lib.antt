@@ -1,5 +1,6 @@
 pub mod Plans
 pub mod Moves
+pub mod Matching
 pub mod Told
 pub mod Fits
 pub mod Laws

@@ -1,8 +1,11 @@
 -- The links of a plan, as the tasks' records say.
-use Rattle.std.specs.Prelude.{ℕ, zero, suc, ◌+◌, ◌*◌, List, [], ◌∷◌, ◌++◌, drop, if◌then◌else◌, ◌==◌}
+use Rattle.std.specs.Prelude.{ℕ, zero, suc, ◌+◌, ◌*◌, List, [], ◌∷◌, ◌++◌, Option, Some, None, drop, if◌then◌else◌, ◌==◌}
 use Rattle.kern_base.specs.declared.outcomes.Decision.{Decision}
 use Rattle.kern_base.specs.declared.outcomes.Decision.TheVariants.{Done, Block, Wake}
+use Rattle.kern_base.specs.declared.outcomes.Who.{Who}
+use Rattle.kern_base.specs.declared.outcomes.Who.TheVariants.{Matching}
 use Rattle.kern_model.specs.State.{Task, task_in}
+use Rattle.kern_model.specs.FlagBits.{ready_bits}
 use Rattle.micro_steps.specs.declared.link.Link.{Link}
 use Rattle.micro_steps.specs.declared.link.Link.TheVariants as link
 use Rattle.link_plans.specs.declared.plan.Plan.{Plan}
@@ -17,6 +20,10 @@ abbrev pub ready_links : ℕ → ℕ → ℕ → ℕ → List Link
 ready_links zero x p compared = link.Ready (record { 0 = x }) (record { 0 = p }) (p == compared) ∷ []
 ready_links (suc n) x p compared = []
 
+-- x is woken: it leaves its objects and joins its ready list
+abbrev pub wake_links : ℕ → ℕ → Task → List Link
+wake_links x compared t = leave_links x 0 t.objects ++ ready_links t.suspended x t.prio compared
+
 -- these are woken, in order
 abbrev pub wakes_links : List Task → ℕ → List ℕ → List Link
 wakes_links ts compared [] = []
@@ -24,12 +31,40 @@ wakes_links ts compared (x ∷ xs) =
     let t = task_in ts x in
     leave_links x 0 t.objects ++ (ready_links t.suspended x t.prio compared ++ wakes_links ts compared xs)
 
--- these are left to wake, and the first of them has left so many objects
+-- these are left to wake, and so many links of the first of them are made
 abbrev pub wakes_left : List Task → ℕ → ℕ → List ℕ → List Link
 wakes_left ts compared made [] = []
 wakes_left ts compared made (x ∷ xs) =
+    drop made (wake_links x compared (task_in ts x)) ++ wakes_links ts compared xs
+
+-- x is looked at, and woken where its wait is ready with bits
+abbrev pub look_links : Option ℕ → ℕ → ℕ → Task → List Link
+look_links None x compared t = link.Plain ∷ []
+look_links (Some ready) x compared t = link.Plain ∷ wake_links x compared t
+
+-- each of these is looked at, in order, on these bits of their event flag group
+abbrev pub matching_links : List Task → ℕ → ℕ → List ℕ → List Link
+matching_links ts bits compared [] = []
+matching_links ts bits compared (x ∷ xs) =
     let t = task_in ts x in
-    drop made (leave_links x 0 t.objects) ++ (ready_links t.suspended x t.prio compared ++ wakes_links ts compared xs)
+    look_links (ready_bits bits t.mask t.opt) x compared t ++ matching_links ts bits compared xs
+
+-- these are left to look at, and so many links of the first of them are made
+abbrev pub matching_left : List Task → ℕ → ℕ → ℕ → List ℕ → List Link
+matching_left ts bits compared made [] = []
+matching_left ts bits compared made (x ∷ xs) =
+    let t = task_in ts x in
+    drop made (look_links (ready_bits bits t.mask t.opt) x compared t) ++ matching_links ts bits compared xs
+
+-- the links of one of the tasks that a post, an abort or a deletion wakes or looks at
+abbrev pub woken_links : Who → ℕ → ℕ → ℕ → Task → List Link
+woken_links Matching bits compared x t = look_links (ready_bits bits t.mask t.opt) x compared t
+woken_links w bits compared x t = wake_links x compared t
+
+-- what is left of all of them
+abbrev pub woken_left : Who → List Task → Plan → List Link
+woken_left Matching ts q = matching_left ts q.bits q.compared.0 q.made (drop q.task q.woken.items)
+woken_left w ts q = wakes_left ts q.compared.0 q.made (drop q.task q.woken.items)
 
 -- x, of this priority, waits for these objects: from the i-th node on
 abbrev pub wait_links : ℕ → ℕ → ℕ → List ℕ → List Link
@@ -46,7 +81,7 @@ block_links ts x os =
 abbrev pub decision_left : Decision → List Task → Plan → List Link
 decision_left (Done a) ts q = []
 decision_left Block ts q = drop q.made (block_links ts q.caller.0 q.objects.items)
-decision_left (Wake w) ts q = wakes_left ts q.compared.0 q.made (drop q.task q.woken.items)
+decision_left (Wake w) ts q = woken_left w ts q
 
 -- the links that are left, with the end of the step
 abbrev pub links_left : List Task → Plan → List Link

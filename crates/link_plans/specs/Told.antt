@@ -4,6 +4,7 @@ use Rattle.std.specs.List.{list_any}
 use Rattle.kern_base.specs.declared.numbers.Prio.{Prio}
 use Rattle.kern_base.specs.declared.outcomes.Decision.{Decision}
 use Rattle.kern_base.specs.declared.outcomes.Decision.TheVariants.{Done, Block, Wake}
+use Rattle.kern_base.specs.declared.outcomes.Who.TheVariants.{Matching}
 use Rattle.kern_model.specs.State.{Kernel, Task, task_at, task_in, prio_of, is_zero, waits_for_nothing}
 use Rattle.kern_model.specs.Inherit.{inherited}
 use Rattle.link_plans.specs.declared.plan.Plan.{Plan}
@@ -11,6 +12,7 @@ use Rattle.link_plans.specs.declared.moves.Standing.{Standing}
 use Rattle.link_plans.specs.declared.moves.Standing.TheVariants.{Ready, Waits, Nowhere}
 use Rattle.link_plans.specs.declared.moves.Move.{Move}
 use Rattle.link_plans.specs.Moves.{standing_of}
+use Rattle.link_plans.specs.Matching.{holds_on}
 
 -- the inherited priority of a task, by its number
 abbrev pub inherited_told : List Prio → ℕ → ℕ
@@ -47,13 +49,18 @@ moves_told ts prios standings (x ∷ xs) = move_told ts prios standings x ++ mov
 abbrev pub standing_by : Bool → Bool → ℕ → Option Standing
 standing_by alive free suspended = if alive then Some (if alive && (free && is_zero suspended) then Ready else (if free then Nowhere else Waits)) else None
 
--- whether x waits for nothing after a call, where it did before or not: a caller that blocks waits, and tasks that are woken do not
-abbrev pub free_after : Decision → ℕ → List ℕ → ℕ → Bool → Bool
-free_after (Done a) caller woken x free = free
-free_after Block caller woken x free = free && not (x == caller)
-free_after (Wake w) caller woken x free = free || list_any (λ y. y == x) woken
+-- Whether x waits for nothing after a call, where it did before or not, and where the condition of its wait on event flags holds
+-- then or not: a caller that blocks waits, and tasks that are woken do not. Of those that a post of event flags looks at, it wakes
+-- the ones whose condition holds.
+abbrev pub free_after : Decision → ℕ → List ℕ → ℕ → Bool → Bool → Bool
+free_after (Done a) caller woken x free holds = free
+free_after Block caller woken x free holds = free && not (x == caller)
+free_after (Wake Matching) caller woken x free holds = free || (list_any (λ y. y == x) woken && holds)
+free_after (Wake w) caller woken x free holds = free || list_any (λ y. y == x) woken
 
 -- where x stands after the call of a plan
 abbrev pub standing_after : Plan → List Task → ℕ → Option Standing
 standing_after q ts x =
-    let t = task_in ts x in standing_by t.alive (free_after q.decision q.caller.0 q.woken.items x (waits_for_nothing t.waiting)) t.suspended
+    let t = task_in ts x in
+    let free = free_after q.decision q.caller.0 q.woken.items x (waits_for_nothing t.waiting) (holds_on q.bits t) in
+    standing_by t.alive free t.suspended

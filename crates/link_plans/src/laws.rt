@@ -1,8 +1,9 @@
-// The two facts that a service owes of its plan, proved for all tasks, objects and lists. Each function does nothing: its contract
+// The facts that a service owes of its plan, proved for all tasks, objects and lists. Each function does nothing: its contract
 // is the fact.
 
-ghost use Rattle.link_plans.specs.AfterCalls.{BlockKnowsObjects, BlockRenews, BlockTells, PlainRenews, WakesKeepObjects, WakesRenew, WakesTell};
+ghost use Rattle.link_plans.specs.AfterCalls.{BlockKnowsObjects, BlockRenews, BlockTells, MatchingTell, PlainRenews, WakesKeepObjects, WakesRenew, WakesTell};
 ghost use Rattle.link_plans.specs.Renewals.{BlockKeepsPriorities, LinksLead, RenewalMovesPriorities, RenewalMovesTasks, RenewalsFollow, RenewalsHold, WakesKeepPriorities};
+ghost use Rattle.link_plans.specs.Matching.{MatchingAreBlocks, MatchingAreWakes, MatchingChange, MatchingEnd, MatchingFit, MatchingKeepNodes, MatchingKeepPriorities};
 ghost use Rattle.link_plans.specs.Laws.{BlockFits, BlockIsBlocks, BlockKeepsNodes, LinksKeepPast, WaiterCanWake, WakesAreBlocks, WakesFit, WakesKeepNodes};
 
 /// The links of tasks that are woken are the blocks of their wakes.
@@ -72,9 +73,11 @@ pub fn a_block_tells()
     ensures objects { BlockKnowsObjects }
 {}
 
-/// What a plan and the records tell of the tasks after a call that wakes tasks.
+/// What a plan and the records tell of the tasks after a call that wakes the first waiter or all, or those whose condition on event
+/// flags holds.
 pub fn wakes_tell()
     ensures tasks { WakesTell }
+    ensures matching { MatchingTell }
     ensures objects { WakesKeepObjects }
 {}
 
@@ -90,4 +93,29 @@ pub fn calls_renew()
 pub fn moves_are_written()
     ensures tasks { RenewalMovesTasks }
     ensures priorities { RenewalMovesPriorities }
+{}
+
+/// A post of event flags wakes the waiters whose condition holds one after another, each with its ready bits. Beside the lists this
+/// changes the records of tasks and the matches, by the records and the matches before.
+pub fn matching_are_wakes()
+    ensures wakes { MatchingAreWakes }
+    ensures change { MatchingChange }
+{}
+
+/// The links of waiters that are looked at are the blocks of a post of event flags.
+pub fn matching_are_blocks()
+    ensures { MatchingAreBlocks }
+{}
+
+/// They fit, where each of the waiters can be woken and none stands twice, and end with the lists of nodes after the wakes of those
+/// whose condition holds.
+pub fn matching_fit()
+    ensures fits { MatchingFit }
+    ensures end { MatchingEnd }
+{}
+
+/// After them each node that waits still serves its task's object, and the priorities of all tasks are as before.
+pub fn matching_keep()
+    ensures nodes { MatchingKeepNodes }
+    ensures priorities { MatchingKeepPriorities }
 {}

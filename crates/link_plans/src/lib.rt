@@ -12,8 +12,9 @@ mod standings;
 
 pub use laws::{
     a_block_fits, a_block_is_its_blocks, a_block_keeps_nodes, a_block_tells, a_waiter_can_wake,
-    calls_renew, links_keep_past, links_keep_priorities, links_lead, moves_are_written,
-    renewals_follow, renewals_hold, wakes_are_blocks, wakes_fit, wakes_keep_nodes, wakes_tell,
+    calls_renew, links_keep_past, links_keep_priorities, links_lead, matching_are_blocks,
+    matching_are_wakes, matching_fit, matching_keep, moves_are_written, renewals_follow,
+    renewals_hold, wakes_are_blocks, wakes_fit, wakes_keep_nodes, wakes_tell,
 };
 pub use moves::{Move, Moves, Standing};
 pub use plan::Plan;

@@ -1,13 +1,16 @@
 // What a call comes to, and which of its links are made.
 
-ghost use Rattle.std.specs.Prelude.{◌≡◌, ◌<◌, ◌≤◌, ℕ, [], ◌∷◌, drop, length, All, MatchOption, None, true};
-ghost use Rattle.link_plans.specs.Plans.{block_links, links_left, wakes_left};
+ghost use Rattle.std.specs.Prelude.{◌≡◌, ◌<◌, ◌≤◌, ℕ, [], ◌∷◌, drop, length, All, IsSome, MatchOption, None, slice_get, true};
+ghost use Rattle.kern_model.specs.FlagBits.{ready_bits};
+ghost use Rattle.tcb_pool.specs.TaskView.{task_of};
+ghost use Rattle.link_plans.specs.Plans.{block_links, links_left, look_links, wake_links, woken_left, woken_links};
 
 use arrayvec::ArrayVec;
-use kern_base::{Decision, ObjId, Prio, TaskId};
+use event_flags::FlagGroup;
+use kern_base::{Decision, ObjId, Prio, TaskId, Who};
 use micro_steps::Link;
 use pend_lists::node_of;
-use tcb_pool::Tcbs;
+use tcb_pool::{Tcb, Tcbs};
 
 /// What a call comes to, and how far its links are made.
 #[derive(Drop)]
@@ -18,9 +21,11 @@ pub struct Plan {
     pub compared: Prio,
     /// The objects for which the caller is to wait, where it blocks.
     pub objects: ArrayVec<u8, 8>,
-    /// The tasks that are woken, in order.
+    /// The tasks that are woken, in order; of a post of event flags all that wait for the group, each of which is looked at.
     pub woken: ArrayVec<u8, 64>,
-    /// How many of these are woken.
+    /// The bits of the event flag group that a post leaves; 0 in any other plan.
+    pub bits: u32,
+    /// How many of these tasks are done with.
     pub task: usize,
     /// How many links are made of the task in hand.
     pub made: u8,
@@ -35,14 +40,14 @@ impl Plan {
         requires objects { All (λ o. o < 64) self.old.objects.items }
         requires woken { All (λ x. x < 64) self.old.woken.items }
         ensures next { MatchOption result (links_left tasks.now.tasks self.old ≡ []) (λ link. links_left tasks.now.tasks self.old ≡ link ∷ links_left tasks.now.tasks self.new) }
-        ensures kept { (self.new.decision ≡ self.old.decision) × (self.new.caller ≡ self.old.caller) × (self.new.compared ≡ self.old.compared) × (self.new.objects ≡ self.old.objects) × (self.new.woken ≡ self.old.woken) }
+        ensures kept { (self.new.decision ≡ self.old.decision) × (self.new.caller ≡ self.old.caller) × (self.new.compared ≡ self.old.compared) × (self.new.objects ≡ self.old.objects) × (self.new.woken ≡ self.old.woken) × (self.new.bits ≡ self.old.bits) }
         ensures ended { self.old.ended ≡ true → self.new.ended ≡ true }
         ensures none { result ≡ None → links_left tasks.now.tasks self.new ≡ [] }
     {
         let next = match self.decision {
             Decision::Done(_) => None,
             Decision::Block => self.next_of_block(tasks),
-            Decision::Wake(_) => self.next_of_wakes(tasks),
+            Decision::Wake(who) => self.next_of_wakes(who, tasks),
         };
         if next.is_none() && !self.ended {
             self.ended = true;
@@ -55,7 +60,7 @@ impl Plan {
     fn next_of_block(&mut self, tasks: &Tcbs) -> Option<Link>
         requires caller { self.old.caller.0 < 64 }
         ensures next { MatchOption result (drop self.old.made (block_links tasks.now.tasks self.old.caller.0 self.old.objects.items) ≡ []) (λ link. drop self.old.made (block_links tasks.now.tasks self.old.caller.0 self.old.objects.items) ≡ link ∷ drop self.new.made (block_links tasks.now.tasks self.old.caller.0 self.old.objects.items)) }
-        ensures kept { (self.new.decision ≡ self.old.decision) × (self.new.caller ≡ self.old.caller) × (self.new.compared ≡ self.old.compared) × (self.new.objects ≡ self.old.objects) × (self.new.woken ≡ self.old.woken) }
+        ensures kept { (self.new.decision ≡ self.old.decision) × (self.new.caller ≡ self.old.caller) × (self.new.compared ≡ self.old.compared) × (self.new.objects ≡ self.old.objects) × (self.new.woken ≡ self.old.woken) × (self.new.bits ≡ self.old.bits) }
         ensures others { (self.new.task ≡ self.old.task) × (self.new.ended ≡ self.old.ended) }
         ensures none { result ≡ None → self.new.made ≡ self.old.made }
     {
@@ -74,28 +79,63 @@ impl Plan {
         None
     }
 
-    // A task leaves its objects, and becomes ready where it is not suspended; then comes the next.
-    fn next_of_wakes(&mut self, tasks: &Tcbs) -> Option<Link>
+    // The tasks are woken or looked at, one after another.
+    fn next_of_wakes(&mut self, who: Who, tasks: &Tcbs) -> Option<Link>
         requires woken { All (λ x. x < 64) self.old.woken.items }
-        ensures next { MatchOption result (wakes_left tasks.now.tasks self.old.compared.0 self.old.made (drop self.old.task self.old.woken.items) ≡ []) (λ link. wakes_left tasks.now.tasks self.old.compared.0 self.old.made (drop self.old.task self.old.woken.items) ≡ link ∷ wakes_left tasks.now.tasks self.new.compared.0 self.new.made (drop self.new.task self.new.woken.items)) }
-        ensures kept { (self.new.decision ≡ self.old.decision) × (self.new.caller ≡ self.old.caller) × (self.new.compared ≡ self.old.compared) × (self.new.objects ≡ self.old.objects) × (self.new.woken ≡ self.old.woken) }
+        ensures next { MatchOption result (woken_left who tasks.now.tasks self.old ≡ []) (λ link. woken_left who tasks.now.tasks self.old ≡ link ∷ woken_left who tasks.now.tasks self.new) }
+        ensures kept { (self.new.decision ≡ self.old.decision) × (self.new.caller ≡ self.old.caller) × (self.new.compared ≡ self.old.compared) × (self.new.objects ≡ self.old.objects) × (self.new.woken ≡ self.old.woken) × (self.new.bits ≡ self.old.bits) }
         ensures others { self.new.ended ≡ self.old.ended }
-        ensures none { result ≡ None → wakes_left tasks.now.tasks self.new.compared.0 self.new.made (drop self.new.task self.new.woken.items) ≡ [] }
+        ensures none { result ≡ None → woken_left who tasks.now.tasks self.new ≡ [] }
     {
         while self.task < self.woken.len() {
             let task = TaskId(self.woken[self.task]);
-            let tcb = tasks.get(task);
-            let ids = &tcb.ids[..tcb.n_ids as usize];
-            let index = self.made;
-            if (index as usize) < ids.len() {
+            if let Some(link) = self.task_link(who, task, tasks.get(task)) {
                 self.made += 1;
-                return Some(Link::Leave(node_of(task, index), ObjId(ids[index as usize])));
+                return Some(link);
             }
             self.task += 1;
             self.made = 0;
-            if tcb.suspended == 0 {
-                return Some(Link::Ready(task, tcb.prio, tcb.prio == self.compared));
-            }
+        }
+        None
+    }
+
+    // The next link of the task in hand, where there is one.
+    fn task_link(&self, who: Who, task: TaskId, tcb: &Tcb) -> Option<Link>
+        requires { task.0 < 64 }
+        ensures link { result ≡ slice_get (woken_links who self.now.bits self.now.compared.0 task.0 (task_of tcb.now)) self.now.made }
+        ensures few { IsSome result → self.now.made < 16 }
+    {
+        match who {
+            Who::First | Who::All => self.wake_link(task, tcb, self.made),
+            Who::Matching => self.look_link(task, tcb),
+        }
+    }
+
+    // The next link of a task that is looked at: a micro-step, and then its wake where its condition holds on the group's bits.
+    fn look_link(&self, task: TaskId, tcb: &Tcb) -> Option<Link>
+        requires { task.0 < 64 }
+        ensures link { result ≡ slice_get (look_links (ready_bits self.now.bits tcb.now.mask tcb.now.opt) task.0 self.now.compared.0 (task_of tcb.now)) self.now.made }
+        ensures few { IsSome result → self.now.made < 16 }
+    {
+        if self.made == 0 {
+            return Some(Link::Plain);
+        }
+        FlagGroup::ready_bits(self.bits, tcb.mask, tcb.opt)?;
+        self.wake_link(task, tcb, self.made - 1)
+    }
+
+    // The link of a wake after so many: the task leaves its objects, and becomes ready where it is not suspended.
+    fn wake_link(&self, task: TaskId, tcb: &Tcb, made: u8) -> Option<Link>
+        requires { task.0 < 64 }
+        ensures link { result ≡ slice_get (wake_links task.0 self.now.compared.0 (task_of tcb.now)) made }
+        ensures few { IsSome result → made < 15 }
+    {
+        let ids = &tcb.ids[..tcb.n_ids as usize];
+        if (made as usize) < ids.len() {
+            return Some(Link::Leave(node_of(task, made), ObjId(ids[made as usize])));
+        }
+        if tcb.suspended == 0 && made as usize == ids.len() {
+            return Some(Link::Ready(task, tcb.prio, tcb.prio == self.compared));
         }
         None
     }

@@ -1,13 +1,15 @@
 // Where tasks stand after the call of a plan.
 
-ghost use Rattle.std.specs.Prelude.{◌≡◌, ◌<◌, ℕ, ◌==◌};
+ghost use Rattle.std.specs.Prelude.{◌≡◌, ◌<◌, ℕ, ◌==◌, is_some};
 ghost use Rattle.std.specs.List.{list_any};
 ghost use Rattle.kern_model.specs.State.{waits_for_nothing};
+ghost use Rattle.kern_model.specs.FlagBits.{ready_bits};
 ghost use Rattle.link_plans.specs.Told.{free_after, standing_after, standing_by, standing_told};
 
 use crate::moves::Standing;
 use crate::plan::Plan;
-use kern_base::{Decision, TaskId, Waiting};
+use event_flags::FlagGroup;
+use kern_base::{Decision, TaskId, Waiting, Who};
 use tcb_pool::{Tcb, Tcbs};
 
 impl Plan {
@@ -24,12 +26,12 @@ impl Plan {
 
     // Where the task of this record stands then.
     fn standing(&self, task: TaskId, tcb: &Tcb) -> Option<Standing>
-        ensures { result ≡ standing_by tcb.now.alive (free_after self.now.decision self.now.caller.0 self.now.woken.items task.0 (waits_for_nothing tcb.now.wait)) tcb.now.suspended }
+        ensures { result ≡ standing_by tcb.now.alive (free_after self.now.decision self.now.caller.0 self.now.woken.items task.0 (waits_for_nothing tcb.now.wait) (is_some (ready_bits self.now.bits tcb.now.mask tcb.now.opt))) tcb.now.suspended }
     {
         if !tcb.alive {
             return None;
         }
-        let free = self.is_free(task, matches!(tcb.wait, Waiting::No));
+        let free = self.is_free(task, tcb);
         Some(match (free, tcb.suspended) {
             (true, 0) => Standing::Ready,
             (true, _) => Standing::Nowhere,
@@ -37,18 +39,27 @@ impl Plan {
         })
     }
 
-    // Whether the task waits for nothing after the call, where it did before or not.
-    fn is_free(&self, task: TaskId, free: bool) -> bool
-        ensures { result ≡ free_after self.now.decision self.now.caller.0 self.now.woken.items task.0 free }
+    // Whether the task of this record waits for nothing after the call.
+    fn is_free(&self, task: TaskId, tcb: &Tcb) -> bool
+        ensures { result ≡ free_after self.now.decision self.now.caller.0 self.now.woken.items task.0 (waits_for_nothing tcb.now.wait) (is_some (ready_bits self.now.bits tcb.now.mask tcb.now.opt)) }
     {
+        let free = matches!(tcb.wait, Waiting::No);
         match self.decision {
             Decision::Done(_) => free,
             Decision::Block => free && task != self.caller,
-            Decision::Wake(_) => free || self.is_woken(task),
+            Decision::Wake(Who::Matching) => free || (self.is_woken(task) && self.holds(tcb)),
+            Decision::Wake(Who::First | Who::All) => free || self.is_woken(task),
         }
     }
 
-    // Whether the task is among those that are woken.
+    // Whether the condition of the task's wait on event flags holds on the bits of the plan.
+    fn holds(&self, tcb: &Tcb) -> bool
+        ensures { result ≡ is_some (ready_bits self.now.bits tcb.now.mask tcb.now.opt) }
+    {
+        FlagGroup::ready_bits(self.bits, tcb.mask, tcb.opt).is_some()
+    }
+
+    // Whether the task is among those that are woken or looked at.
     fn is_woken(&self, task: TaskId) -> bool
         ensures { result ≡ list_any (λ y. y == task.0) self.now.woken.items }
     {

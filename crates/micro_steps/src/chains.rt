@@ -270,7 +270,7 @@ impl<L: Links> Chains<L> {
                 }
             },
             _ => {
-                self.pend.link_back(node, cursor.place);
+                self.pend.link_back(node);
                 true
             }
         }

@@ -34,7 +34,7 @@ messages-with false n (y ∷ ys) q = ap (λ ms. message_or_none (message_at q y)
 
 -- messages under keys where nothing changed
 
-messages-same : (keys : List ℕ) (p q : Pool) → ((key : ℕ) → 0 < count_of key keys → message_at q key ≡ message_at p key) → messages_under keys q ≡ messages_under keys p
+pub messages-same : (keys : List ℕ) (p q : Pool) → ((key : ℕ) → 0 < count_of key keys → message_at q key ≡ message_at p key) → messages_under keys q ≡ messages_under keys p
 messages-same [] p q h = refl
 messages-same (y ∷ ys) p q h =
     ap (λ m. message_or_none m ∷ messages_under ys q) (h y (omega (arith, counts-itself y ys)))

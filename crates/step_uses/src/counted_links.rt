@@ -6,7 +6,9 @@ use std::cell::Cell;
 /// Links that count the calls of `next` and `prev`.
 #[derive(Drop)]
 pub struct CountedLinks<'a> {
+    /// The links that are read and set.
     pub links: IndexLinks,
+    /// How many neighbours were read, modulo 2^32.
     pub reads: &'a Cell<u32>,
 }
 

@@ -6,9 +6,9 @@ ghost use Rattle.kern_model.specs.Valid.{MayCall};
 ghost use Rattle.links.specs.Nodes.{AreOwn};
 
 use crate::counted_links::CountedLinks;
+use crate::rows::{Row, after, reads};
 use app_image::{Image, check, read_image};
-use arrayvec::ArrayVec;
-use kern_base::{Answer, ObjId, OsErr, Outcome, Post, Prio, Request, Service, TaskId, Waiting};
+use kern_base::{Answer, OsErr, Outcome, Post, Prio, Request, Service, TaskId, Waiting};
 use kernel_calls::{Kernel, Progress};
 use link_pool::RawLinks;
 use links::{IndexLinks, Links};
@@ -17,14 +17,17 @@ use std::cell::Cell;
 use std::process::Abort;
 use std::test::Fail;
 
-// Version 2: one code word that loops; tasks `a`, `b` and `c` with priority 10; semaphores `s` with count 0 and `t` with count 7.
-const IMAGE: &[u8] = b"UC3I\x02\0\0\0\x01\0\0\0\0\0\0\0\x03\0\x02\0\0\0\0\0\
+// Version 2: one code word that loops; tasks `a`, `b` and `c` with priority 10; semaphores `s` with count 0 and `t` with count 7,
+// a queue `q` of one message and event flags `f`, all clear.
+const IMAGE: &[u8] = b"UC3I\x02\0\0\0\x01\0\0\0\0\0\0\0\x03\0\x04\0\0\0\0\0\
 \0\x01\0\0\x10\0\0\0\x40\0\0\0\x0a\0\0\0\x01\0\0\0\x0a\0\0\0\x01\0\0\0\x3e\0\0\0\0\0\x14\0\0\0\0\0\
 a\0\0\0\0\0\0\0\0\0\0\0\0\0\0\0\0\0\0\0\0\0\x14\0\x0a\0\0\0\0\0\0\0\0\0\0\0\
 b\0\0\0\0\0\0\0\0\0\0\0\0\0\0\0\0\0\0\0\0\0\x14\0\x0a\0\0\0\0\0\0\0\0\0\0\0\
 c\0\0\0\0\0\0\0\0\0\0\0\0\0\0\0\0\0\0\0\0\0\x14\0\x0a\0\0\0\0\0\0\0\0\0\0\0\
 s\0\0\0\0\0\0\0\0\0\0\0\0\0\0\0\x01\0\0\0\0\0\0\0\0\0\0\0\0\0\0\0\0\0\0\0\
 t\0\0\0\0\0\0\0\0\0\0\0\0\0\0\0\x01\0\0\0\x07\0\0\0\0\0\0\0\0\0\0\0\0\0\0\0\
+q\0\0\0\0\0\0\0\0\0\0\0\0\0\0\0\x02\0\0\0\x01\0\0\0\0\0\0\0\0\0\0\0\0\0\0\0\
+f\0\0\0\0\0\0\0\0\0\0\0\0\0\0\0\x03\0\0\0\0\0\0\0\0\0\0\0\0\0\0\0\0\0\0\0\
 \x6f\0\0\0";
 
 fn image(alloc: Global) -> Result<Image, Fail> {
@@ -101,54 +104,12 @@ fn posts<L: Links>(rt: &impl Abort, kernel: &mut Kernel<L>) {
     }
 }
 
-// The tasks of one ready list and of one list of waiters, by the forward and by the backward chain.
-#[derive(Clone, Copy)]
-struct Row {
-    ready: &'static [u8],
-    ready_back: &'static [u8],
-    pend: &'static [u8],
-    pend_back: &'static [u8],
-}
-
-// The lists after a micro-step.
-fn after(
-    ready: &'static [u8],
-    ready_back: &'static [u8],
-    pend: &'static [u8],
-    pend_back: &'static [u8],
-) -> Row {
-    Row {
-        ready,
-        ready_back,
-        pend,
-        pend_back,
-    }
-}
-
-// Reads the ready list of priority 10 and the waiters of object 0.
-fn reads<L: Links>(rt: &impl Abort, kernel: &Kernel<L>, row: &Row) {
-    let ready = kernel.chains().ready();
-    let pend = kernel.chains().pend();
-    let mut out = ArrayVec::new();
-    ready.forward(Prio(10), &mut out);
-    assert_eq!(rt; out.as_slice(), row.ready);
-    let mut back = ArrayVec::new();
-    ready.backward(Prio(10), &mut back);
-    assert_eq!(rt; back.as_slice(), row.ready_back);
-    let mut waiters = ArrayVec::new();
-    pend.forward(ObjId(0), &mut waiters);
-    assert_eq!(rt; waiters.as_slice(), row.pend);
-    let mut turned = ArrayVec::new();
-    pend.backward(ObjId(0), &mut turned);
-    assert_eq!(rt; turned.as_slice(), row.pend_back);
-}
-
 // Makes the step in hand: a micro-step for each row, and no more.
 fn made<L: Links>(rt: &impl Abort, kernel: &mut Kernel<L>, rows: &[Row], outcome: Outcome) {
     for k in 0..rows.len() {
         assert!(rt; !kernel.is_free());
         let progress = kernel.advance();
-        reads(rt, kernel, &rows[k]);
+        reads(rt, kernel.chains(), Prio(10), &rows[k]);
         match progress {
             Progress::More => assert!(rt; k + 1 < rows.len()),
             Progress::Done(end) => {
@@ -266,6 +227,49 @@ fn whole<L: Links>(rt: &impl Abort, kernel: &mut Kernel<L>, count: u32) {
         let _ = kernel.advance();
     }
     assert!(rt; kernel.is_free());
+}
+
+// Waits for a queue, for event flags and for the caller's own semaphore, and the posts of interrupt code that end them, each with
+// what it hands.
+fn waits<L: Links>(rt: &impl Abort, kernel: &mut Kernel<L>) {
+    for (task, service, args, steps) in [
+        (0u8, Service::QPend, [2, 0, 0, 0], 6u32),
+        (1, Service::FlagPend, [3, 6, 0, 1], 6),
+        (2, Service::TaskSemPend, [0, 0, 0, 0], 4),
+    ] {
+        let mut request = call(service, 0);
+        request.args = args;
+        begin(rt, kernel, TaskId(task), &request);
+        whole(rt, kernel, steps);
+        assert!(rt; kernel.tcb(TaskId(task)).wait != Waiting::No);
+    }
+    for (service, args, task, value, extra) in [
+        (Service::QPost, [2, 0x10_0004, 3, 0], 0u8, 0x10_0004, 3),
+        (Service::FlagPost, [3, 4, 0, 0], 1, 4, 0),
+        (Service::TaskSemPost, [2, 0, 0, 0], 2, 0, 0),
+    ] {
+        assert!(rt; kernel.is_free());
+        let answer = kernel.post_now(Post { service, args }, Prio(10));
+        assert_eq!(rt; answer.err, OsErr::NoError);
+        let tcb = kernel.tcb(TaskId(task));
+        assert!(rt; tcb.wait == Waiting::No);
+        assert!(rt;
+            tcb.result
+                .is_some_and(|it| it.answer.value == value && it.answer.extra == extra)
+        );
+    }
+}
+
+#[test]
+fn waits_of_each_kind(rt: HostRuntime) -> Result<(), Fail> {
+    let alloc = rt.alloc();
+    let mut kernel = kernel(
+        alloc,
+        IndexLinks::new(alloc, 128)?,
+        IndexLinks::new(alloc, 576)?,
+    )?;
+    waits(&rt, &mut kernel);
+    Ok(())
 }
 
 // A wait reads a waiter for each that it passes, and no list whole; a pick reads the first of a ready list; a call without a

@@ -2,9 +2,12 @@
 //! what is read.
 #![tactic(auto)]
 
-#[cfg(test)]
 mod counted_links;
 #[cfg(test)]
 mod kernel_tests;
 #[cfg(test)]
+mod rows;
+#[cfg(test)]
 mod tests;
+
+pub use counted_links::CountedLinks;

@@ -8,7 +8,7 @@ ghost use Rattle.micro_steps.specs.declared.link.Link.{Link as ALink};
 ghost use Rattle.micro_steps.specs.Whole.{HasNode, IsPaused};
 
 use crate::counted_links::CountedLinks;
-use arrayvec::ArrayVec;
+use crate::rows::{Row, after, reads};
 use kern_base::{ObjId, Prio, TaskId};
 use link_pool::RawLinks;
 use links::{IndexLinks, Links};
@@ -16,33 +16,6 @@ use micro_steps::{Link, Steps};
 use std::cell::Cell;
 use std::process::Abort;
 use std::test::Fail;
-
-// The tasks of one ready list and of one list of waiters, by the forward and by the backward chain.
-#[derive(Clone, Copy)]
-struct Row {
-    ready: &'static [u8],
-    ready_back: &'static [u8],
-    pend: &'static [u8],
-    pend_back: &'static [u8],
-}
-
-// Reads the ready list of priority 7 and the waiters of object 0.
-fn reads<L: Links>(rt: &impl Abort, steps: &Steps<L>, row: &Row) {
-    let ready = steps.chains().ready();
-    let pend = steps.chains().pend();
-    let mut out = ArrayVec::new();
-    ready.forward(Prio(7), &mut out);
-    assert_eq!(rt; out.as_slice(), row.ready);
-    let mut back = ArrayVec::new();
-    ready.backward(Prio(7), &mut back);
-    assert_eq!(rt; back.as_slice(), row.ready_back);
-    let mut waiters = ArrayVec::new();
-    pend.forward(ObjId(0), &mut waiters);
-    assert_eq!(rt; waiters.as_slice(), row.pend);
-    let mut turned = ArrayVec::new();
-    pend.backward(ObjId(0), &mut turned);
-    assert_eq!(rt; turned.as_slice(), row.pend_back);
-}
 
 // Makes one link: a micro-step for each row, and no more.
 fn made<L: Links>(rt: &impl Abort, steps: &mut Steps<L>, link: Link, rows: &[Row])
@@ -53,28 +26,13 @@ fn made<L: Links>(rt: &impl Abort, steps: &mut Steps<L>, link: Link, rows: &[Row
     steps.take(link);
     for k in 0..rows.len() {
         let last = steps.step();
-        reads(rt, steps, &rows[k]);
+        reads(rt, steps.chains(), Prio(7), &rows[k]);
         if last {
             assert_eq!(rt; k + 1, rows.len());
             return;
         }
     }
     panic!(rt; "a link has more micro-steps than rows");
-}
-
-// The lists after a micro-step.
-fn after(
-    ready: &'static [u8],
-    ready_back: &'static [u8],
-    pend: &'static [u8],
-    pend_back: &'static [u8],
-) -> Row {
-    Row {
-        ready,
-        ready_back,
-        pend,
-        pend_back,
-    }
 }
 
 fn links_one_by_one<L: Links>(rt: &impl Abort, ready: L, pend: L)

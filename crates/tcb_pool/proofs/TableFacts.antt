@@ -1,10 +1,10 @@
 -- Records inside a table.
-use Rattle.std.proofs.Common.{◌≡◌, ℕ, List, get_or, ap, ◌∙◌, map, subst}
+use Rattle.std.proofs.Common.{◌≡◌, ℕ, List, [], ◌∷◌, get_or, refl, ap, ◌∙◌, map, subst}
 use Rattle.std.specs.Prelude.{slice_set}
 use Rattle.std.proofs.lemmas.List.{map-set}
 use Rattle.std.proofs.Math.Seq.{map-set_same}
 use Rattle.tcb_pool.specs.TaskTable.{TaskTable}
-use Rattle.tcb_pool.specs.TaskView.{task_of}
+use Rattle.tcb_pool.specs.TaskView.{task_of, without_own}
 use Rattle.tcb_pool.specs.declared.records.Tcb.{Tcb}
 
 -- what records mean
@@ -17,3 +17,8 @@ table-with_registers xs i v d old view same =
     subst (λ (o : TaskTable). table_in (slice_set xs i v) ≡ record o { registers = slice_set o.registers i v.regs }) view
     (ap (λ ts. let t : TaskTable = record { tasks = ts; registers = map (λ t. t.regs) (slice_set xs i v) } in t) (map-set_same task_of xs i v d same)
     ∙ ap (λ rs. let t : TaskTable = record { tasks = map task_of xs; registers = rs } in t) (map-set (λ (t : Tcb). t.regs) xs i v))
+
+-- no record has a part in its task's own semaphore and queue
+pub alone : (xs : List Tcb) → map without_own (map task_of xs) ≡ map task_of xs
+alone [] = refl
+alone (x ∷ xs) = ap (λ ts. task_of x ∷ ts) (alone xs)

@@ -3,7 +3,11 @@ use Rattle.std.specs.Prelude.{[], take}
 use Rattle.kern_model.specs.State.{Task}
 use Rattle.tcb_pool.specs.declared.records.Tcb.{Tcb}
 
--- the task of the kernel state; its queue has no messages yet
+-- a task without its own semaphore and queue, in which its record has no part
+abbrev pub without_own : Task → Task
+without_own t = record t { count = 0; messages = []; limit = 0 }
+
+-- the task of the kernel state, but for its own semaphore and queue
 abbrev pub task_of : Tcb → Task
 task_of t =
     record {
@@ -16,9 +20,9 @@ task_of t =
       opt = t.opt;
       table = t.table;
       suspended = t.suspended;
-      count = t.count;
+      count = 0;
       messages = [];
-      limit = t.limit;
+      limit = 0;
       quantum = t.quantum;
       full = t.full;
       answered = t.result;

@@ -2,6 +2,7 @@
 //! that waits for them.
 #![tactic(auto)]
 
+mod answers;
 mod records;
 mod tables;
 

@@ -28,10 +28,6 @@ pub struct Tcb {
     pub suspended: u8,
     /// False for a task that was deleted or that trapped, and for a number without a task.
     pub alive: bool,
-    /// The count of its own semaphore.
-    pub count: u32,
-    /// How many messages its own queue may hold.
-    pub limit: u32,
     /// What is left of its quantum, in ticks.
     pub quantum: u32,
     /// Its full quantum, in ticks.

@@ -3,15 +3,17 @@
 ghost use Rattle.std.specs.Prelude.{◌≡◌, ◌<◌, ◌≤◌, ◌++◌, ◌==◌, ◌&&◌, not, length, map, drop, All, List, slice_set, slice_index_or};
 ghost use Rattle.kern_model.specs.State.{Task, no_task, is_ready};
 ghost use Rattle.machine_model.specs.Steps.{some_readied};
-ghost use Rattle.tcb_pool.specs.TaskView.{task_of};
+ghost use Rattle.tcb_pool.specs.TaskView.{task_of, without_own};
 ghost use Rattle.rv32_exec.specs.Exec.{exec};
 ghost use Rattle.rv32_exec.specs.Registers.{no_registers};
 ghost use Rattle.kern_model.specs.Start.{start_tasks, living_task, application_task};
 ghost use Rattle.machine_model.specs.Start.{start_registers, entry_registers};
+ghost use Rattle.machine_model.specs.Answers.{size_of, with_answer};
 
 use crate::Tcb;
+use crate::answers::write_answer;
 use app_image::{Image, TaskDef};
-use kern_base::{LEAVE, Prio, TaskId, Waiting};
+use kern_base::{Answer, LEAVE, Prio, Service, TaskId, Waiting};
 use rv32_exec::{Program, Ram, Regs, Stepped};
 use std::marker::Model;
 
@@ -48,8 +50,6 @@ fn blank() -> Tcb
         table: 0,
         suspended: 0,
         alive: false,
-        count: 0,
-        limit: 0,
         quantum: 0,
         full: 0,
         regs: Regs::new(),
@@ -58,8 +58,8 @@ fn blank() -> Tcb
 }
 
 // The record of a living task at the start.
-fn living(prio: u8, quantum: u32, limit: u32, wait: Waiting, regs: Regs) -> Tcb
-    ensures task { task_of result ≡ living_task prio quantum limit wait }
+fn living(prio: u8, quantum: u32, wait: Waiting, regs: Regs) -> Tcb
+    ensures task { task_of result ≡ living_task prio quantum 0 wait }
     ensures registers { result.regs ≡ regs }
 {
     Tcb {
@@ -73,8 +73,6 @@ fn living(prio: u8, quantum: u32, limit: u32, wait: Waiting, regs: Regs) -> Tcb
         table: 0,
         suspended: 0,
         alive: true,
-        count: 0,
-        limit,
         quantum,
         full: quantum,
         regs,
@@ -96,24 +94,18 @@ fn entry_regs(def: &TaskDef) -> Regs
 // The record of an application task at the start.
 fn application(def: &TaskDef, quanta: u32) -> Tcb
     requires { def.now.prio < 256 }
-    ensures task { task_of result ≡ application_task quanta def.now }
+    ensures task { task_of result ≡ without_own (application_task quanta def.now) }
     ensures registers { result.regs ≡ entry_registers def.now }
 {
     let quantum = if def.quanta == 0 { quanta } else { def.quanta };
-    living(
-        def.prio as u8,
-        quantum,
-        def.qsize,
-        Waiting::No,
-        entry_regs(def),
-    )
+    living(def.prio as u8, quantum, Waiting::No, entry_regs(def))
 }
 
 // Writes the records of the application tasks to the front.
 fn place(records: &mut [Tcb], defs: &[TaskDef], quanta: u32)
     requires room { length defs.now ≤ length records.old }
     requires small { All (λ d. d.prio < 256) defs.now }
-    ensures tasks { map task_of records.new ≡ map (application_task quanta) defs.now ++ drop (length defs.now) (map task_of records.old) }
+    ensures tasks { map task_of records.new ≡ map (λ d. without_own (application_task quanta d)) defs.now ++ drop (length defs.now) (map task_of records.old) }
     ensures registers { map (λ t. t.regs) records.new ≡ map entry_registers defs.now ++ drop (length defs.now) (map (λ t. t.regs) records.old) }
 {
     for (index, def) in defs.iter().enumerate() {
@@ -162,16 +154,16 @@ impl Tcbs {
     /// The records at the start: the application tasks in declared order, then numbers without a
     /// task, and from 60 on the tick task, the timer task, the idle task and the handler.
     pub fn new(image: &Image) -> Tcbs
-        ensures tasks { result.tasks ≡ start_tasks image.now }
+        ensures tasks { result.tasks ≡ map without_own (start_tasks image.now) }
         ensures registers { result.registers ≡ start_registers image.now }
     {
         let config = image.config();
         let none = Regs::new();
         let quanta = config.quanta;
         let mut records = [blank(); 64];
-        records[60] = living(config.tick_prio as u8, quanta, 0, Waiting::Signal, none);
-        records[61] = living(config.tmr_prio as u8, quanta, 0, Waiting::Signal, none);
-        records[62] = living(63, quanta, 0, Waiting::No, none);
+        records[60] = living(config.tick_prio as u8, quanta, Waiting::Signal, none);
+        records[61] = living(config.tmr_prio as u8, quanta, Waiting::Signal, none);
+        records[62] = living(63, quanta, Waiting::No, none);
         place(&mut records, image.tasks(), quanta);
         Tcbs { records }
     }
@@ -183,6 +175,13 @@ impl Tcbs {
         ensures registers { result.now.regs ≡ slice_index_or self.now.registers task.0 no_registers }
     {
         &self.records[task.0 as usize]
+    }
+
+    /// No record has a part in its task's own semaphore and queue: a law, to be called where it is needed.
+    pub fn stand_alone(&self)
+        ensures { map without_own self.now.tasks ≡ self.now.tasks }
+    {
+        let _ = &self.records;
     }
 
     /// Writes the record of a task.
@@ -206,12 +205,15 @@ impl Tcbs {
         program.step(&mut tcb.regs, ram)
     }
 
-    /// Writes the registers of a task, and changes nothing else.
-    pub fn set_regs(&mut self, task: TaskId, regs: Regs)
+    /// Writes the answer of a call into the registers of a task, where they stand, and changes nothing else: the number of its error
+    /// to a0, its value to a1, and to a2 the size of a message, of a call that takes one. Gives that size.
+    pub fn answer(&mut self, task: TaskId, service: Service, answer: Answer) -> Option<u32>
         requires { task.0 < 64 }
-        ensures { self.new ≡ record self.old { registers = slice_set self.old.registers task.0 regs } }
+        ensures size { result ≡ size_of service answer }
+        ensures registers { self.new ≡ record self.old { registers = slice_set self.old.registers task.0 (with_answer service answer (slice_index_or self.old.registers task.0 no_registers)) } }
     {
-        self.records[task.0 as usize].regs = regs;
+        let caller = &mut self.records[task.0 as usize];
+        write_answer(&mut caller.regs, service, answer)
     }
 
     /// Which tasks are ready, by number.

@@ -1,6 +1,7 @@
 -- Small cases of the services, computed.
-use Rattle.kern_model.proofs.Common.{call_of, ℕ, ◌≡◌, refl, [], ◌∷◌, ◌++◌, None, Some, true, false, replicate, List, Service, SemPost, SemPend, QPost, Request, CallUnknown, ObjectType, SemOverflow, WouldBlock, SchedLocked, OptionInvalid, Answered, No, Obj, Signal, Kernel, Task, Count, no_task, pick, task_at, object_at, answer, fine, plain_result, effect, posted, post_request, program_serves, cost}
+use Rattle.kern_model.proofs.Common.{call_of, ℕ, ◌≡◌, refl, [], ◌∷◌, ◌++◌, None, Some, true, false, replicate, List, Service, SemPost, SemPend, QPost, Request, CallUnknown, ObjectType, SemOverflow, WouldBlock, SchedLocked, OptionInvalid, Answered, No, Obj, Signal, Kernel, Task, Count, no_task, pick, task_at, object_at, answer, fine, plain_result, effect, posted, post_request, cost}
 use Rattle.kern_model.specs.Finish.{finished}
+use Rattle.kern_model.specs.Served.{program_serves}
 use Rattle.kern_model.specs.Stop.{stopped}
 
 abbrev pub a_task : ℕ → Task

@@ -1,18 +1,21 @@
 use Rattle.std.proofs.Common.{◌≡◌, ℕ, ◌<◌, ◌+◌, ◌∷◌, [], refl, sym, ap, ◌∙◌, subst, Some, None, true, arith}
-use Rattle.std.specs.Prelude.{Bool, Option}
+use Rattle.std.specs.Prelude.{All, Bool, Option}
+use Rattle.kern_base.specs.declared.requests.Request.{Request}
+use Rattle.kern_base.specs.declared.outcomes.Decision.{Decision}
 use Rattle.kern_base.specs.declared.outcomes.Around.{Around}
 use Rattle.arrayvec.specs.ArrayVec.{ArrayVec}
-use Rattle.kern_model.specs.State.{Kernel, list_at}
-use Rattle.kern_model.specs.Checks.{argument}
-use Rattle.kern_model.specs.Micro.{lists_of}
+use Rattle.kern_model.specs.State.{Kernel}
+use Rattle.kern_model.specs.Micro.{Lists, lists_of}
 use Rattle.kern_model.specs.Services.{blocks, cost}
 use Rattle.kern_model.specs.Valid.{IsLinked}
 use Rattle.kern_model.proofs.Lemmas.{length-matches}
 use Rattle.link_plans.specs.Plans.{links_left}
 use Rattle.link_plans.specs.declared.plan.Plan.{Plan}
 use Rattle.micro_steps.specs.declared.link.Link.{Link}
-use Rattle.micro_steps.specs.Whole.{IsMidway, IsPaused, StepsRecord, prios_after}
-use Rattle.kernel_records.specs.Concluding.{woken_of}
+use Rattle.micro_steps.specs.declared.link.Link.TheVariants as link
+use Rattle.micro_steps.specs.Whole.{FitsLink, HasNode, IsMidway, IsPaused, StepsRecord, prios_after}
+use Rattle.kernel_records.specs.Deciding.{IsServedDecision, decision_of, waiters_of}
+use Rattle.kernel_records.specs.Concluding.{objects_waited, woken_of}
 use Rattle.kernel_records.specs.RecordsRecord.{RecordsRecord}
 use Rattle.kernel_records.specs.Served.{IsServed}
 use Rattle.kernel_calls.specs.Works.{WorkRecord, effect_of, stepped}
@@ -23,6 +26,8 @@ use Rattle.kernel_calls.specs.KernelView.{IsSound, state_with}
 use Rattle.kernel_calls.proofs.StepFacts.{below-cost, busy-of, few-steps, hand-back, hand-next, in-hand, left-below, IsSamePlan}
 use Rattle.kernel_calls.proofs.ServedFacts.{all-single}
 use Rattle.kernel_calls.proofs.EndFacts.{same-concluded, same-outcome, sound-end, is-last, outcome-made, state-made}
+use Rattle.kernel_calls.proofs.OwnFacts.{last-own, next-own}
+use Rattle.kernel_records.proofs.WaitFacts.{decision-lists}
 use Rattle.kernel_calls.proofs.kernels.Kernel.advance.Goals as goal
 
 pub count-requires : goal.count-requires
@@ -70,7 +75,7 @@ invariant_of-self g c =
     let q = c.self.inside.plan in
     let h = in-hand c.self.inside.busy w q c.self.inside.seen k c.self.inside.steps b.0 c.self.invariant.hand in
     sound-next c.self.inside.records c.self.inside.steps c.step.new.self q q c.self.inside.seen w c.count.new.self c.self.inside.busy c.self.invariant c.step.ensures.kept.0 c.count.ensures b.0
-    (hand-next w q q c.self.inside.seen k c.self.inside.steps c.step.new.self h (record { decision = refl; caller = refl; compared = refl; objects = refl; woken = refl })
+    (hand-next w q q c.self.inside.seen k c.self.inside.steps c.step.new.self h (record { decision = refl; caller = refl; compared = refl; objects = refl; woken = refl; bits = refl })
     (c.step.ensures.more (blocks (effect_of w k) k) (lists_of k) w.done (links_left k.tasks q) h.end c.if-not-step.true h.midway) (ap (prios_over (links_left k.tasks q)) c.step.ensures.kept.1))
 
 pub returns-then-not-step-clause-done : goal.returns-then-not-step-clause-done
@@ -104,14 +109,35 @@ take-requires-clause-even g c =
     let h = in-hand c.self.inside.busy w q c.self.inside.seen k c.self.inside.steps b.0 c.self.invariant.hand in
     (c.step.ensures.last (blocks (effect_of w k) k) (lists_of k) w.done (links_left k.tasks q) h.end c.if-not-step.false h.midway).even
 
+-- a link that fits has its node
+fits-node : (objects : ℕ) (k : Link) (l : Lists) → FitsLink objects k l → HasNode k
+fits-node objects (link.Wait n p o) l f = f.0
+fits-node objects (link.Leave n o) l f = tt
+fits-node objects (link.Unready x p) l f = tt
+fits-node objects (link.Ready x p tail) l f = tt
+fits-node objects link.Plain l f = tt
+
+pub take-requires-clause-node : goal.take-requires-clause-node
+take-requires-clause-node g c =
+    let b = busy-of c.self.inside.busy c.self.inside.work c.requires.busy.0 (rw (← c.self.view_is) at c.requires.busy.1) in
+    let k = state_with c.self.inside.records.state c.self.inside.steps.start in
+    let w = c.self.inside.work in
+    let q = c.self.inside.plan in
+    let p = c.next_link.new.self in
+    let h = in-hand c.self.inside.busy w q c.self.inside.seen k c.self.inside.steps b.0 c.self.invariant.hand in
+    let ms = blocks (effect_of w k) k in
+    let next : links_left k.tasks q ≡ c.in-Some.link ∷ links_left k.tasks p = next-own k.tasks c.tasks.result.now.tasks q p c.in-Some.link c.tasks.ensures.tasks c.in-Some.ensures.next in
+    let paused = c.step.ensures.last ms (lists_of k) w.done (links_left k.tasks q) h.end c.if-not-step.false h.midway in
+    fits-node _ c.in-Some.link _ (subst (λ ks. IsPaused ms (lists_of k) (w.done + 1) ks h.end c.step.new.self) next paused).fits.0
+
 -- the next block is in hand
-in-next : (w : WorkRecord) (q p : Plan) (seen : Around) (k : Kernel) (s m t : StepsRecord) (link : Link) (h : IsInHand w q seen k s) → links_left k.tasks q ≡ link ∷ links_left k.tasks p
-    → IsPaused (blocks (effect_of w k) k) (lists_of k) (w.done + 1) (links_left k.tasks q) h.end m → m.prios ≡ s.prios → IsSamePlan q p → t.prios ≡ prios_after link m.prios
-    → (IsPaused (blocks (effect_of w k) k) (lists_of k) (w.done + 1) (link ∷ links_left k.tasks p) h.end m → IsMidway (blocks (effect_of w k) k) (lists_of k) (w.done + 1) (links_left k.tasks p) h.end t) → IsInHand (stepped w) p seen k t
-in-next w q p seen k s m t link h next paused same plan prios taken =
+in-next : (w : WorkRecord) (q p : Plan) (seen : Around) (k : Kernel) (s m t : StepsRecord) (j : Link) (h : IsInHand w q seen k s) → links_left k.tasks q ≡ j ∷ links_left k.tasks p
+    → IsPaused (blocks (effect_of w k) k) (lists_of k) (w.done + 1) (links_left k.tasks q) h.end m → m.prios ≡ s.prios → IsSamePlan q p → t.prios ≡ prios_after j m.prios
+    → (IsPaused (blocks (effect_of w k) k) (lists_of k) (w.done + 1) (j ∷ links_left k.tasks p) h.end m → IsMidway (blocks (effect_of w k) k) (lists_of k) (w.done + 1) (links_left k.tasks p) h.end t) → IsInHand (stepped w) p seen k t
+in-next w q p seen k s m t j h next paused same plan prios taken =
     hand-next w q p seen k s t h plan
     (taken (subst (λ ks. IsPaused (blocks (effect_of w k) k) (lists_of k) (w.done + 1) ks h.end m) next paused))
-    (ap (prios_over (links_left k.tasks p)) (prios ∙ ap (prios_after link) same) ∙ ap (λ ks. prios_over ks s.prios) (sym next))
+    (ap (prios_over (links_left k.tasks p)) (prios ∙ ap (prios_after j) same) ∙ ap (λ ks. prios_over ks s.prios) (sym next))
 
 pub invariant_of-self-in-Some : goal.invariant_of-self-in-Some
 invariant_of-self-in-Some g c =
@@ -122,12 +148,12 @@ invariant_of-self-in-Some g c =
     let p = c.next_link.new.self in
     let h = in-hand c.self.inside.busy w q c.self.inside.seen k c.self.inside.steps b.0 c.self.invariant.hand in
     let ms = blocks (effect_of w k) k in
-    let next : links_left k.tasks q ≡ c.in-Some.link ∷ links_left k.tasks p = rw c.tasks.ensures.tasks at c.in-Some.ensures.next in
+    let next : links_left k.tasks q ≡ c.in-Some.link ∷ links_left k.tasks p = next-own k.tasks c.tasks.result.now.tasks q p c.in-Some.link c.tasks.ensures.tasks c.in-Some.ensures.next in
     let kept = c.in-Some.ensures.kept in
     sound-next c.self.inside.records c.self.inside.steps c.take.new.self q p c.self.inside.seen w c.count.new.self c.self.inside.busy c.self.invariant (c.take.ensures.kept.1 ∙ c.step.ensures.kept.0) c.count.ensures b.0
     (in-next w q p c.self.inside.seen k c.self.inside.steps c.step.new.self c.take.new.self c.in-Some.link h next
     (c.step.ensures.last ms (lists_of k) w.done (links_left k.tasks q) h.end c.if-not-step.false h.midway) c.step.ensures.kept.1
-    (record { decision = kept.0; caller = kept.1; compared = kept.2; objects = kept.3; woken = kept.4 }) c.take.ensures.prios
+    (record { decision = kept.0; caller = kept.1; compared = kept.2; objects = kept.3; woken = kept.4; bits = kept.5 }) c.take.ensures.prios
     (c.take.ensures.midway ms (lists_of k) (w.done + 1) (links_left k.tasks p) h.end))
 
 pub returns-in-Some-clause-done : goal.returns-in-Some-clause-done
@@ -139,7 +165,7 @@ returns-in-Some-clause-done g c =
     let p = c.next_link.new.self in
     let h = in-hand c.self.inside.busy w q c.self.inside.seen k c.self.inside.steps b.0 c.self.invariant.hand in
     let ms = blocks (effect_of w k) k in
-    let next : links_left k.tasks q ≡ c.in-Some.link ∷ links_left k.tasks p = rw c.tasks.ensures.tasks at c.in-Some.ensures.next in
+    let next : links_left k.tasks q ≡ c.in-Some.link ∷ links_left k.tasks p = next-own k.tasks c.tasks.result.now.tasks q p c.in-Some.link c.tasks.ensures.tasks c.in-Some.ensures.next in
     let paused = c.step.ensures.last ms (lists_of k) w.done (links_left k.tasks q) h.end c.if-not-step.false h.midway in
     let taken = c.take.ensures.midway ms (lists_of k) (w.done + 1) (links_left k.tasks p) h.end (subst (λ ks. IsPaused ms (lists_of k) (w.done + 1) ks h.end c.step.new.self) next paused) in
     let open_yet = below-cost (effect_of w k) k (w.done + 1) (left-below ms (lists_of k) (w.done + 1) (links_left k.tasks p) h.end c.take.new.self taken) in
@@ -167,10 +193,10 @@ invariant_of-self-in-None g c =
     let w = c.self.inside.work in
     let q = c.self.inside.plan in
     let i = sound-busy c.self.inside.records c.self.inside.steps q c.self.inside.seen w c.self.inside.busy b.0 c.self.invariant in
-    let none : links_left k.tasks q ≡ [] = rw c.tasks.ensures.tasks at c.in-None.ensures.next in
+    let none : links_left k.tasks q ≡ [] = last-own k.tasks c.tasks.result.now.tasks q c.tasks.ensures.tasks c.in-None.ensures.next in
     let paused = subst (λ ks. IsPaused (blocks (effect_of w k) k) (lists_of k) (w.done + 1) ks i.hand.end c.step.new.self) none (c.step.ensures.last (blocks (effect_of w k) k) (lists_of k) w.done (links_left k.tasks q) i.hand.end c.if-not-step.false i.hand.midway) in
     let records = ap (λ (r : RecordsRecord). r.state) c.conclude-outcome.ensures.records
-    ∙ same-concluded c.next_link.new.self.decision q.decision c.request.result.now w.request c.self.inside.seen.caller.0 w.caller c.as_slice.result.now (woken_of q.decision (list_at k.pend (argument w.request 0))) c.self.inside.records.state
+    ∙ same-concluded c.next_link.new.self.decision q.decision c.request.result.now w.request c.self.inside.seen.caller.0 w.caller c.as_slice.result.now (woken_of q.decision (waiters_of w.request w.caller k)) c.self.inside.records.state
     c.in-None.ensures.kept.0 (c.request.ensures ∙ ap (λ (v : WorkRecord). v.request) c.count.ensures) i.hand.planned.who (c.as_slice.ensures.value ∙ ap (λ (xs : ArrayVec ℕ). xs.items) c.in-None.ensures.kept.4 ∙ i.hand.planned.woken) in
     sound-end w c.count.new.self q c.next_link.new.self c.self.inside.seen c.self.inside.records c.conclude-outcome.new.self c.self.inside.steps c.step.new.self c.close.new.self i none paused c.step.ensures.kept.1
     c.close.ensures.kept.0 c.close.ensures.kept.1 c.close.ensures.start records
@@ -185,7 +211,7 @@ returns-in-None-clause-more g c =
     let w = c.self.inside.work in
     let q = c.self.inside.plan in
     let i = sound-busy c.self.inside.records c.self.inside.steps q c.self.inside.seen w c.self.inside.busy b.0 c.self.invariant in
-    let none : links_left k.tasks q ≡ [] = rw c.tasks.ensures.tasks at c.in-None.ensures.next in
+    let none : links_left k.tasks q ≡ [] = last-own k.tasks c.tasks.result.now.tasks q c.tasks.ensures.tasks c.in-None.ensures.next in
     let paused = subst (λ ks. IsPaused (blocks (effect_of w k) k) (lists_of k) (w.done + 1) ks i.hand.end c.step.new.self) none (c.step.ensures.last (blocks (effect_of w k) k) (lists_of k) w.done (links_left k.tasks q) i.hand.end c.if-not-step.false i.hand.midway) in
     let at_end = is-last w q c.self.inside.seen c.self.inside.records.state c.self.inside.steps.start c.self.inside.steps c.step.new.self i.valid i.served i.hand none paused in
     λ v e d. absurd (not-yet v w c.args.self.now.state k c.args.self.now.hand e (c.requires.busy.1 ∙ ap Some (sym b.1)) (ap (λ (a : KernelRecord). a.state) (sym c.self.view_is)) at_end d)
@@ -199,9 +225,9 @@ returns-in-None-clause-done g c =
     let d = c.next_link.new.self.decision in
     let r = c.request.result.now in
     let xs = c.as_slice.result.now in
-    let list = woken_of q.decision (list_at k.pend (argument w.request 0)) in
+    let list = woken_of q.decision (waiters_of w.request w.caller k) in
     let i = sound-busy c.self.inside.records c.self.inside.steps q c.self.inside.seen w c.self.inside.busy b.0 c.self.invariant in
-    let none : links_left k.tasks q ≡ [] = rw c.tasks.ensures.tasks at c.in-None.ensures.next in
+    let none : links_left k.tasks q ≡ [] = last-own k.tasks c.tasks.result.now.tasks q c.tasks.ensures.tasks c.in-None.ensures.next in
     let paused = subst (λ ks. IsPaused (blocks (effect_of w k) k) (lists_of k) (w.done + 1) ks i.hand.end c.step.new.self) none (c.step.ensures.last (blocks (effect_of w k) k) (lists_of k) w.done (links_left k.tasks q) i.hand.end c.if-not-step.false i.hand.midway) in
     let request = c.request.ensures ∙ ap (λ (v : WorkRecord). v.request) c.count.ensures in
     let woken = c.as_slice.ensures.value ∙ ap (λ (xs : ArrayVec ℕ). xs.items) c.in-None.ensures.kept.4 ∙ i.hand.planned.woken in
@@ -211,7 +237,7 @@ returns-in-None-clause-done g c =
     ap (λ l. state_with c.conclude-outcome.new.self.state l) c.close.ensures.start
     ∙ state-made w q c.self.inside.seen c.self.inside.records.state c.self.inside.steps.start c.self.inside.steps c.step.new.self i.valid i.served i.hand none paused c.conclude-outcome.new.self.state records in
     let outcome : c.conclude-outcome.result ≡ (effect_of w k).outcome =
-    c.conclude-outcome.ensures.outcome ∙ same-outcome d q.decision r w.request xs list c.in-None.ensures.kept.0 request woken
+    c.conclude-outcome.ensures.outcome ∙ same-outcome d q.decision r w.request c.self.inside.seen.caller.0 w.caller xs list c.self.inside.records.state c.in-None.ensures.kept.0 request i.hand.planned.who woken
     ∙ outcome-made w q c.self.inside.seen c.self.inside.records.state c.self.inside.steps.start c.self.inside.steps c.step.new.self i.valid i.served i.hand none paused in
     let registers = ap (λ (r : RecordsRecord). r.registers) c.conclude-outcome.ensures.records in
     λ v e n.
@@ -220,3 +246,37 @@ returns-in-None-clause-done g c =
 
 pub conclude-outcome-requires-clause-single : goal.conclude-outcome-requires-clause-single
 conclude-outcome-requires-clause-single g c = all-single (state_with c.self.inside.records.state c.self.inside.steps.start) c.self.invariant.valid c.self.invariant.served
+
+-- what the records are told of is what was planned
+pub conclude-outcome-requires-clause-caller : goal.conclude-outcome-requires-clause-caller
+conclude-outcome-requires-clause-caller g c =
+    let b = busy-of c.self.inside.busy c.self.inside.work c.requires.busy.0 (rw (← c.self.view_is) at c.requires.busy.1) in
+    let h = in-hand c.self.inside.busy c.self.inside.work c.self.inside.plan c.self.inside.seen (state_with c.self.inside.records.state c.self.inside.steps.start) c.self.inside.steps b.0 c.self.invariant.hand in
+    subst (λ x. x < 64) (sym h.planned.who) h.caller
+
+pub conclude-outcome-requires-clause-decided : goal.conclude-outcome-requires-clause-decided
+conclude-outcome-requires-clause-decided g c =
+    let b = busy-of c.self.inside.busy c.self.inside.work c.requires.busy.0 (rw (← c.self.view_is) at c.requires.busy.1) in
+    let k = state_with c.self.inside.records.state c.self.inside.steps.start in
+    let h = in-hand c.self.inside.busy c.self.inside.work c.self.inside.plan c.self.inside.seen k c.self.inside.steps b.0 c.self.invariant.hand in
+    let request = c.request.ensures ∙ ap (λ (v : WorkRecord). v.request) c.count.ensures in
+    c.in-None.ensures.kept.0 ∙ h.planned.decision
+    ∙ sym (decision-lists c.self.inside.work.request c.self.inside.seen c.self.inside.records.state (lists_of k))
+    ∙ ap (λ (r : Request). decision_of r c.self.inside.seen c.self.inside.records.state) (sym request)
+
+pub conclude-outcome-requires-clause-served : goal.conclude-outcome-requires-clause-served
+conclude-outcome-requires-clause-served g c =
+    let b = busy-of c.self.inside.busy c.self.inside.work c.requires.busy.0 (rw (← c.self.view_is) at c.requires.busy.1) in
+    let h = in-hand c.self.inside.busy c.self.inside.work c.self.inside.plan c.self.inside.seen (state_with c.self.inside.records.state c.self.inside.steps.start) c.self.inside.steps b.0 c.self.invariant.hand in
+    let request = c.request.ensures ∙ ap (λ (v : WorkRecord). v.request) c.count.ensures in
+    subst (λ (d : Decision). IsServedDecision d c.request.result.now.service) (sym c.in-None.ensures.kept.0)
+    (subst (λ (r : Request). IsServedDecision c.self.inside.plan.decision r.service) (sym request) h.planned.served)
+
+pub conclude-outcome-requires-clause-objects : goal.conclude-outcome-requires-clause-objects
+conclude-outcome-requires-clause-objects g c =
+    let b = busy-of c.self.inside.busy c.self.inside.work c.requires.busy.0 (rw (← c.self.view_is) at c.requires.busy.1) in
+    let h = in-hand c.self.inside.busy c.self.inside.work c.self.inside.plan c.self.inside.seen (state_with c.self.inside.records.state c.self.inside.steps.start) c.self.inside.steps b.0 c.self.invariant.hand in
+    let request = c.request.ensures ∙ ap (λ (v : WorkRecord). v.request) c.count.ensures in
+    subst (λ (d : Decision). All (λ o. o < 64) (objects_waited d c.request.result.now)) (sym c.in-None.ensures.kept.0)
+    (subst (λ (r : Request). All (λ o. o < 64) (objects_waited c.self.inside.plan.decision r)) (sym request)
+    (subst (All (λ o. o < 64)) h.planned.objects h.planned.objects_below))

@@ -1,4 +1,4 @@
-use Rattle.std.proofs.Common.{◌≡◌, ◌<◌, ◌∙◌, ap, sym, subst, refl, length}
+use Rattle.std.proofs.Common.{◌≡◌, ◌<◌, ◌∙◌, ap, sym, subst, refl, length, false}
 use Rattle.std.specs.Prelude.{All}
 use Rattle.kern_base.specs.declared.numbers.TaskId.{TaskId}
 use Rattle.kern_base.specs.declared.numbers.Prio.{Prio}
@@ -6,26 +6,43 @@ use Rattle.kern_model.specs.State.{list_at}
 use Rattle.kern_model.specs.Micro.{Halves, lists_of}
 use Rattle.kern_model.specs.Checks.{argument}
 use Rattle.kern_model.specs.Call.{call_of}
-use Rattle.kern_model.specs.Services.{effect, program_serves}
+use Rattle.kern_model.specs.Served.{program_serves}
+use Rattle.kern_model.specs.Services.{effect}
 use Rattle.kern_model.specs.Valid.{IsLinked}
-use Rattle.kern_model.proofs.Lemmas.{AllWait-pend}
 use Rattle.micro_steps.specs.Halfway.{tasks_in}
-use Rattle.decisions.specs.Around.{IsAround}
+use Rattle.decisions.specs.Around.{IsAround, first_waiter}
 use Rattle.decisions.specs.Decided.{decided}
-use Rattle.kernel_records.specs.Deciding.{IsServedDecision, decision_of, own_change}
-use Rattle.kernel_records.proofs.DecidingFacts.{decision-lists}
+use Rattle.task_objects.specs.Rows.{is_task_call}
+use Rattle.link_plans.specs.declared.plan.Plan.{Plan}
+use Rattle.kernel_records.specs.Deciding.{IsServedDecision, decision_of, own_change, waiters_of}
 use Rattle.kernel_records.specs.Concluding.{objects_waited, woken_of}
 use Rattle.kernel_records.specs.Served.{IsServed}
+use Rattle.kernel_records.proofs.RowFacts.{waiters-object}
 use Rattle.kernel_calls.specs.Works.{WorkRecord, begun, effect_of}
-use Rattle.kernel_calls.specs.Stepping.{AreNodes, IsInHand, IsPlanned}
+use Rattle.kernel_calls.specs.Stepping.{AreNodes, IsInHand, IsPlanned, planned_bits}
 use Rattle.kernel_calls.specs.KernelView.{state_with}
 use Rattle.kernel_calls.proofs.BeginFacts.{begun-hand, some-steps}
-use Rattle.kernel_calls.proofs.PlanningFacts.{all-waiters, objects-below, woken-below}
+use Rattle.kernel_calls.proofs.PlanningFacts.{all-waiters, bits-lists, objects-below, woken-below}
 use Rattle.kernel_calls.proofs.StepFacts.{at-rest, free-of}
+use Rattle.kernel_records.proofs.WaitFacts.{decision-lists}
+use Rattle.kernel_calls.proofs.WaiterFacts.{AllWait-waiters}
 use Rattle.kernel_calls.proofs.kernels.Kernel.begin.Goals as goal
 
 pub returns-clause-open_yet : goal.returns-clause-open_yet
 returns-clause-open_yet g c = some-steps _ _
+
+-- what was decided of the call is decided in the kernel with its lists
+pub plan_call-requires : goal.plan_call-requires
+plan_call-requires g c =
+    let rs = c.self.inside.records.state in
+    let k = state_with rs c.self.inside.steps.start in
+    let r = c.args.request.now in
+    let seen = c.around-self-inside.result in
+    let value : c.decide-decision.result ≡ decision_of r seen k = c.decide-decision.ensures.value ∙ decision-lists r seen rs (lists_of k) in
+    record {
+      served = c.decide-decision.ensures.served;
+      objects = objects-below c.decide-decision.result r seen k value c.decide-decision.ensures.served c.self.invariant.valid.sizes.objects;
+    }
 
 pub invariant_of-self : goal.invariant_of-self
 invariant_of-self g c =
@@ -33,30 +50,34 @@ invariant_of-self g c =
     let start = c.self.inside.steps.start in
     let k = state_with rs start in
     let r = c.args.request.now in
-    let q = c.plan_call.new.plan in
+    let x = c.args.caller.0 in
+    let h = c.args.compared.0 in
+    let d = c.decide-decision.result in
+    let p = c.plan_call.new.plan in
+    let q : Plan = record p { bits = c.planned_bits-bits.result } in
     let seen = c.around-self-inside.result in
-    let w = begun c.args.caller.0 r c.args.interrupted.0 c.args.compared.0 in
+    let w = begun x r c.args.interrupted.0 h in
+    let ws = waiters_of r x k in
     let free = free-of c.self.inside.busy c.self.inside.work (rw (← c.self.view_is) at c.requires.free) in
     let rest = at-rest c.self.inside.busy c.self.inside.work c.self.inside.plan c.self.inside.seen k c.self.inside.steps free c.self.invariant.hand in
     let may = rw (← c.self.view_is) at c.requires.may in
-    let around : IsAround seen (list_at k.pend (argument r 0)) k = rw (← c.self.view_is) at c.around-self-inside.ensures.around in
-    let who : seen.caller.0 ≡ c.args.caller.0 = ap (λ (x : TaskId). x.0) c.around-self-inside.ensures.caller in
-    let decision = c.plan_call.ensures.decision in
-    let seen_bare : IsAround seen (list_at k.pend (argument r 0)) rs = record { locked = around.locked; first = around.first; prio = around.prio } in
-    let row = c.decide-decision.ensures.row (lists_of k) c.args.interrupted.0 c.args.compared.0 seen_bare in
-    let does : effect_of w k ≡ decided q.decision r.service r c.args.caller.0 c.args.compared.0 (list_at k.pend (argument r 0)) (own_change r q.decision k) =
-    ap (λ x. effect program_serves (call_of r x c.args.interrupted.0 c.args.compared.0) k) (sym who) ∙ row
-    ∙ ap (λ x. decided c.decide-decision.result r.service r x c.args.compared.0 (list_at k.pend (argument r 0)) (own_change r c.decide-decision.result k)) who
-    ∙ ap (λ d. decided d r.service r c.args.caller.0 c.args.compared.0 (list_at k.pend (argument r 0)) (own_change r d k)) (sym decision) in
-    let pend = c.pend-pend.ensures.forward ∙ ap (λ (h : Halves). h.forward.pend) (c.chains.ensures.0 ∙ rest.halves) in
+    let around : IsAround seen ws k = rw (← c.self.view_is) at c.around-self-inside.ensures.around in
+    let who : seen.caller.0 ≡ x = ap (λ (t : TaskId). t.0) c.around-self-inside.ensures.caller in
+    let decision : q.decision ≡ d = c.plan_call.ensures.decision in
+    let seen_bare : IsAround seen (waiters_of r seen.caller.0 k) rs = record { locked = around.locked; first = around.first ∙ ap (λ y. first_waiter (waiters_of r y k)) (sym who); prio = around.prio } in
+    let row = c.decide-decision.ensures.row (lists_of k) c.args.interrupted.0 h seen_bare in
+    let does : effect_of w k ≡ decided q.decision r.service r x h ws (own_change r x q.decision k) =
+    ap (λ y. effect program_serves (call_of r y c.args.interrupted.0 h) k) (sym who) ∙ row
+    ∙ ap (λ y. decided d r.service r y h (waiters_of r y k) (own_change r y d k)) who
+    ∙ ap (λ e. decided e r.service r x h ws (own_change r x e k)) (sym decision) in
     let value : q.decision ≡ decision_of r seen k = decision ∙ c.decide-decision.ensures.value ∙ decision-lists r seen rs (lists_of k) in
-    let served : IsServedDecision q.decision r.service = subst (λ d. IsServedDecision d r.service) (sym decision) c.decide-decision.ensures.served in
-    let woken : q.woken.items ≡ woken_of q.decision (list_at k.pend (argument r 0)) =
-    c.plan_call.ensures.woken ∙ ap (λ lists. woken_of c.decide-decision.result (list_at (tasks_in lists) (argument r 0))) pend
-    ∙ ap (woken_of c.decide-decision.result) (sym (all-waiters (length k.objects) start.pend (argument r 0) c.self.invariant.nodes.past))
-    ∙ ap (λ d. woken_of d (list_at k.pend (argument r 0))) (sym decision) in
-    let objects : q.objects.items ≡ objects_waited q.decision r = c.plan_call.ensures.objects ∙ ap (λ d. objects_waited d r) (sym decision) in
-    let few = c.self.invariant.valid.sizes.objects in
+    let served : IsServedDecision q.decision r.service = subst (λ e. IsServedDecision e r.service) (sym decision) c.decide-decision.ensures.served in
+    let pend = c.pend-pend.ensures.forward ∙ ap (λ (a : Halves). a.forward.pend) (c.chains.ensures.0 ∙ rest.halves) in
+    let object : is_task_call r.service ≡ false → ws ≡ list_at (tasks_in c.pend-pend.result.now.forward) (argument r 0) =
+    λ t. waiters-object r x k t ∙ all-waiters (length k.objects) start.pend (argument r 0) c.self.invariant.nodes.past
+    ∙ ap (λ lists. list_at (tasks_in lists) (argument r 0)) (sym pend) in
+    let woken : q.woken.items ≡ woken_of q.decision ws = c.plan_call.ensures.woken ws around.first object ∙ ap (λ e. woken_of e ws) (sym decision) in
+    let objects : q.objects.items ≡ objects_waited q.decision r = c.plan_call.ensures.objects ∙ ap (λ e. objects_waited e r) (sym decision) in
     let plan : IsPlanned w q seen k =
     record {
       around = around;
@@ -64,16 +85,17 @@ invariant_of-self g c =
       decision = value;
       effect = does;
       served = served;
-      caller = ap (λ (x : TaskId). x.0) c.plan_call.ensures.caller;
-      compared = ap (λ (x : Prio). x.0) c.plan_call.ensures.compared;
+      caller = ap (λ (t : TaskId). t.0) c.plan_call.ensures.caller ∙ who;
+      compared = ap (λ (a : Prio). a.0) c.plan_call.ensures.compared;
       woken = woken;
+      bits = c.planned_bits-bits.ensures x ∙ bits-lists d r x rs (lists_of k) ∙ ap (λ e. planned_bits e r x k) (sym decision);
       objects = objects;
-      woken_below = subst (All (λ x. x < 64)) (sym woken) (woken-below q.decision k (list_at k.pend (argument r 0)) (AllWait-pend k c.self.invariant.valid (argument r 0)));
-      objects_below = subst (All (λ x. x < 64)) (sym objects) (objects-below q.decision r seen k value served few);
+      woken_below = subst (All (λ y. y < 64)) (sym woken) (woken-below q.decision k ws (AllWait-waiters r x k c.self.invariant.valid));
+      objects_below = subst (All (λ y. y < 64)) (sym objects) (objects-below q.decision r seen k value served c.self.invariant.valid.sizes.objects);
     } in
     let fresh = c.plan_call.ensures.fresh in
     let hand : IsInHand w q seen k c.take.new.self =
-    begun-hand w q seen rs c.self.inside.steps c.take.new.self c.self.invariant.valid c.self.invariant.nodes rest c.requires.task refl may plan fresh.0 fresh.1 fresh.2 c.take.ensures.midway c.take.ensures.prios in
+    begun-hand w q seen rs c.self.inside.steps c.take.new.self c.self.invariant.valid c.self.invariant.nodes rest c.requires.task refl may plan fresh.1 fresh.2 fresh.3 c.take.ensures.midway c.take.ensures.prios in
     let begins = c.begin.ensures in
     record {
       valid = subst (λ l. IsLinked (state_with rs l)) (sym c.take.ensures.kept.1) c.self.invariant.valid;

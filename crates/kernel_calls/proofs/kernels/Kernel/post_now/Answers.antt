@@ -1,7 +1,8 @@
 use Rattle.std.proofs.Common.{◌≡◌, ℕ, List, Option, ◌<◌, ◌+◌, sym, ap, ◌∙◌, subst, Some, None, inl, inr}
 use Rattle.kern_base.specs.declared.services.Service.{Service}
 use Rattle.kern_base.specs.declared.outcomes.Outcome.{Outcome}
-use Rattle.kern_model.specs.Services.{cost, posted, program_serves}
+use Rattle.kern_model.specs.Served.{program_serves}
+use Rattle.kern_model.specs.Services.{cost, posted}
 use Rattle.kernel_calls.specs.KernelRecord.{KernelRecord, ended}
 use Rattle.kernel_calls.specs.Works.{IsPlainAnswer, WorkRecord, effect_of, stepped}
 use Rattle.kernel_calls.specs.declared.stepping.Progress.{Progress}
@@ -19,37 +20,30 @@ advance-requires g c =
     record { busy = (post_work c.args.post.service c.args.post.args c.args.compared.0 p.done, ap (λ (k : KernelRecord). k.hand) p.is) }
 
 -- a micro-step after which others are left
+stepped-post : (r : Progress) (start now new : KernelRecord) (s : Service) (args : List ℕ) (h : ℕ) (p : IsPosting start now s args h) → r ≡ More
+    → ((w : WorkRecord) → now.hand ≡ Some w → w.done + 1 < cost (effect_of w now.state) now.state → (r ≡ More) × (new ≡ record now { hand = Some (stepped w) }))
+    → ((w : WorkRecord) → now.hand ≡ Some w → w.done + 1 ≡ cost (effect_of w now.state) now.state → (r ≡ Done (effect_of w now.state).outcome) × (new ≡ ended now w))
+    → (p.done + 1 < cost (posted program_serves s args h h start.state) start.state) × (new ≡ record now { hand = Some (stepped (post_work s args h p.done)) })
+stepped-post r start now new s args h p is more done =
+    let hand = hand-posting start now new s args h p in
+    let state = state-posting start now new s args h p in
+    let w = post_work s args h p.done in
+    elim (last-or-not p.done (cost (posted program_serves s args h h start.state) start.state) p.open_yet) [
+      | inl i ↦ (i, (more w hand (subst (λ k. p.done + 1 < cost (effect_of w k) k) (sym state) i)).1)
+      | inr i ↦ absurd (let e = (done w hand (subst (λ k. p.done + 1 ≡ cost (effect_of w k) k) (sym state) i)).0 in cc)
+    ]
+
 pub loop-outcome-preserved : goal.loop-outcome-preserved
 loop-outcome-preserved g c =
     let s = c.args.post.service in
-    let args = c.args.post.args in
-    let h = c.args.compared.0 in
-    let p = c.loop-outcome.invariant in
-    let hand = hand-posting c.args.self.now c.loop-outcome.self c.advance.new.self s args h p in
-    let state = state-posting c.args.self.now c.loop-outcome.self c.advance.new.self s args h p in
-    let w = post_work s args h p.done in
-    elim (last-or-not p.done (cost (posted program_serves s args h h c.args.self.now.state) c.args.self.now.state) p.open_yet) [
-      | inl i ↦ posting-next c.args.self.now c.loop-outcome.self c.advance.new.self s args h p i (c.advance.ensures.more w hand (subst (λ k. p.done + 1 < cost (effect_of w k) k) (sym state) i)).1
-      | inr i ↦
-          let ends = (c.advance.ensures.done w hand (subst (λ k. p.done + 1 ≡ cost (effect_of w k) k) (sym state) i)).0 in
-          absurd (let e = c.in-More.is in cc)
-    ]
+    let on = stepped-post c.advance.result c.args.self.now c.loop-outcome.self c.advance.new.self s c.args.post.args c.args.compared.0 c.loop-outcome.invariant c.in-More.is c.advance.ensures.more c.advance.ensures.done in
+    posting-next c.args.self.now c.loop-outcome.self c.advance.new.self s c.args.post.args c.args.compared.0 c.loop-outcome.invariant on.0 on.1
 
 pub loop-outcome-smaller : goal.loop-outcome-smaller
 loop-outcome-smaller g c =
     let s = c.args.post.service in
-    let args = c.args.post.args in
-    let h = c.args.compared.0 in
-    let p = c.loop-outcome.invariant in
-    let hand = hand-posting c.args.self.now c.loop-outcome.self c.advance.new.self s args h p in
-    let state = state-posting c.args.self.now c.loop-outcome.self c.advance.new.self s args h p in
-    let w = post_work s args h p.done in
-    elim (last-or-not p.done (cost (posted program_serves s args h h c.args.self.now.state) c.args.self.now.state) p.open_yet) [
-      | inl i ↦ fewer-left c.args.self.now c.loop-outcome.self c.advance.new.self s args h p i (c.advance.ensures.more w hand (subst (λ k. p.done + 1 < cost (effect_of w k) k) (sym state) i)).1
-      | inr i ↦
-          let ends = (c.advance.ensures.done w hand (subst (λ k. p.done + 1 ≡ cost (effect_of w k) k) (sym state) i)).0 in
-          absurd (let e = c.in-More.is in cc)
-    ]
+    let on = stepped-post c.advance.result c.args.self.now c.loop-outcome.self c.advance.new.self s c.args.post.args c.args.compared.0 c.loop-outcome.invariant c.in-More.is c.advance.ensures.more c.advance.ensures.done in
+    fewer-left c.args.self.now c.loop-outcome.self c.advance.new.self s c.args.post.args c.args.compared.0 c.loop-outcome.invariant on.0 on.1
 
 cc-done : (o e : Outcome) → Done o ≡ Done e → o ≡ e
 cc-done o e h = cc

@@ -1,33 +1,72 @@
-use Rattle.std.proofs.Common.{ap, sym, ◌∙◌, ◌≡◌, map, arith}
-use Rattle.std.proofs.lemmas.List.{length-map}
-use Rattle.std.proofs.lemmas.Grind.{common_steps}
-use Rattle.std.specs.Vec.{with_items}
-use Rattle.kern_model.specs.State.{Kernel, Object, kind_of, update_object}
-use Rattle.std.specs.Prelude.{List, slice_index}
-use Rattle.kernel_records.specs.Deciding.{content_after}
-use Rattle.kernel_records.specs.ObjectView.{objects_in}
-use Rattle.kernel_records.specs.RecordsView.{state_of}
-use Rattle.kernel_records.proofs.DecidingFacts.{acting-inside, kinds-own, own-none, success-acts}
+use Rattle.std.proofs.Common.{◌≡◌, ◌<◌, ap, sym, ◌∙◌, subst, true, false}
+use Rattle.kern_model.specs.State.{Kernel}
+use Rattle.message_store.specs.Store.{after_own_call, own_at}
+use Rattle.task_objects.specs.Rows as own
+use Rattle.task_objects.specs.Rows.{is_task_call, target}
+use Rattle.kernel_records.specs.RecordsRecord.{RecordsRecord}
+use Rattle.kernel_records.specs.RecordsView.{records_of, state_of}
+use Rattle.kernel_records.proofs.DecidingFacts.{acting, by-object, by-task, changed-task, own-acts, passed-call, passed-inside}
+use Rattle.kernel_records.proofs.TaskCalls.{own-decision, records-own, target-below}
 use Rattle.kernel_records.proofs.records.Records.apply.Goals as goal
-use Rattle.kernel_records.proofs.records.Records.apply.Goals.{else-is_success-via-then-is_success+else-request-len, else-is_success-via-else-is_success}
 
-pub invariant_of-self : goal.invariant_of-self
-invariant_of-self c =
+pub target-requires : goal.target-requires
+target-requires c =
     let r = c.args.request.now in
-    let d = c.args.decision.now in
-    let changed : objects_in c.apply_at.new.objects ≡ update_object (objects_in c.self.inside.objects.items) (slice_index r.args 0) (λ b. record b { content = content_after r.service d b.content }) =
-    c.apply_at.ensures ∙ ap (λ bs. update_object (objects_in bs) (slice_index r.args 0) (λ b. record b { content = content_after r.service d b.content })) c.deref_mut.ensures.value in
-    let written : (with_items c.self.inside.objects c.apply_at.new.objects).items ≡ c.apply_at.new.objects = grind (arith, common_steps) in
-    c.self.invariant ∙ sym (kinds-own r d (state_of c.self.inside))
-    ∙ ap (λ (bs : List Object). record { objects = map (λ (b : Object). kind_of b.content) bs; tasks = (state_of c.self.inside).settings.tasks }) (sym (ap objects_in written ∙ changed))
+    let it = acting r c.args.seen.now c.args.decision.now c.args.self.now.state c.requires.decided c.requires.acts in
+    let t : is_task_call r.service ≡ true = sym c.is_task_call.ensures ∙ c.if-is_task_call.true in
+    target-below c.self.inside r c.args.seen.now.caller.0 c.self.invariant c.requires.caller it.served t (rw (← c.self.view_is) at it.passed)
 
-pub returns-else-is_success : goal.returns-else-is_success
-returns-else-is_success c =
-    elim c.else-is_success.branch [
-      | else-is_success-via-then-is_success+else-request-len w ↦
-          let inside = acting-inside c.args.request.now c.args.seen.now c.args.decision.now c.args.self.now.state c.requires.decided (success-acts c.args.decision.now (sym c.is_success.ensures ∙ w.if-is_success.true)) in
-          let here = rw (← c.self.view_is) at inside in
-          absurd (grind (arith, length-map))
-      | else-is_success-via-else-is_success w ↦
-          ap (λ (k : Kernel). record c.args.self.now { state = k }) (sym (own-none c.args.request.now c.args.decision.now c.args.self.now.state (sym c.is_success.ensures ∙ w.if-is_success.false)))
-    ]
+pub apply_own-requires-clause-number : goal.apply_own-requires-clause-number
+apply_own-requires-clause-number c =
+    let r = c.args.request.now in
+    let it = acting r c.args.seen.now c.args.decision.now c.args.self.now.state c.requires.decided c.requires.acts in
+    let t : is_task_call r.service ≡ true = sym c.is_task_call.ensures ∙ c.if-is_task_call.true in
+    subst (λ n. n < 64) (sym c.target.ensures) (target-below c.self.inside r c.args.seen.now.caller.0 c.self.invariant c.requires.caller it.served t (rw (← c.self.view_is) at it.passed))
+
+pub apply_own-requires-clause-decided : goal.apply_own-requires-clause-decided
+apply_own-requires-clause-decided c =
+    let r = c.args.request.now in
+    let seen = c.args.seen.now in
+    let a = c.self.inside in
+    let it = acting r seen c.args.decision.now c.args.self.now.state c.requires.decided c.requires.acts in
+    let t : is_task_call r.service ≡ true = sym c.is_task_call.ensures ∙ c.if-is_task_call.true in
+    let told = it.decided ∙ by-task r seen c.args.self.now.state t in
+    let about = rw (← c.self.view_is) at told in
+    about
+    ∙ own-decision a r seen.caller.0 c.self.invariant c.requires.caller it.served t (rw (← c.self.view_is) at it.passed) seen
+    ∙ ap (λ y. own.decision_of (own_at a.messages y).count (own_at a.messages y).limit (own_at a.messages y).messages a.messages.free r seen) (sym c.target.ensures)
+
+pub returns-then-is_task_call : goal.returns-then-is_task_call
+returns-then-is_task_call c =
+    let r = c.args.request.now in
+    let seen = c.args.seen.now in
+    let x = seen.caller.0 in
+    let d = c.args.decision.now in
+    let a = c.self.inside in
+    let it = acting r seen d c.args.self.now.state c.requires.decided c.requires.acts in
+    let t : is_task_call r.service ≡ true = sym c.is_task_call.ensures ∙ c.if-is_task_call.true in
+    let store = c.apply_own.ensures ∙ ap (λ y. after_own_call a.messages y r d) c.target.ensures in
+    rw (← c.self.view_is)
+    (records-own a r x c.self.invariant c.requires.caller it.served t (rw (← c.self.view_is) at it.passed) d c.apply_own.new.self store
+    ∙ ap (λ (k : Kernel). let b : RecordsRecord = record (records_of a) { state = k } in b) (sym (own-acts r x d (state_of a) c.requires.acts ∙ changed-task r x d (state_of a) t)))
+
+pub apply_to_object-requires-clause-object : goal.apply_to_object-requires-clause-object
+apply_to_object-requires-clause-object c =
+    let r = c.args.request.now in
+    let it = acting r c.args.seen.now c.args.decision.now c.args.self.now.state c.requires.decided c.requires.acts in
+    let t : is_task_call r.service ≡ false = sym c.is_task_call.ensures ∙ c.if-is_task_call.false in
+    passed-inside r c.args.seen.now.caller.0 c.args.self.now.state it.served t it.passed
+
+pub apply_to_object-requires-clause-call : goal.apply_to_object-requires-clause-call
+apply_to_object-requires-clause-call c =
+    let r = c.args.request.now in
+    let it = acting r c.args.seen.now c.args.decision.now c.args.self.now.state c.requires.decided c.requires.acts in
+    let t : is_task_call r.service ≡ false = sym c.is_task_call.ensures ∙ c.if-is_task_call.false in
+    passed-call r c.args.seen.now.caller.0 c.args.self.now.state it.served t it.passed
+
+pub apply_to_object-requires-clause-decided : goal.apply_to_object-requires-clause-decided
+apply_to_object-requires-clause-decided c =
+    let r = c.args.request.now in
+    let it = acting r c.args.seen.now c.args.decision.now c.args.self.now.state c.requires.decided c.requires.acts in
+    let t : is_task_call r.service ≡ false = sym c.is_task_call.ensures ∙ c.if-is_task_call.false in
+    it.decided ∙ by-object r c.args.seen.now c.args.self.now.state t

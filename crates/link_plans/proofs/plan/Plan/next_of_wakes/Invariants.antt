@@ -1,12 +1,13 @@
-use Rattle.std.proofs.Common.{◌≡◌, drop, ◌-◌, length}
-use Rattle.link_plans.specs.Plans.{wakes_left}
+use Rattle.std.proofs.Common.{◌≡◌, ◌-◌, length}
+use Rattle.link_plans.specs.Plans.{woken_left}
 use Rattle.link_plans.proofs.plan.Plan.next_of_wakes.Given as goal
 
 abbrev pub invariant-loop-self : goal.invariant-loop-self
 invariant-loop-self l =
     record {
-      left : wakes_left l.tasks.tasks l.self.compared.0 l.self.made (drop l.self.task l.self.woken.items) ≡ wakes_left l.tasks.tasks l.initial.self.compared.0 l.initial.self.made (drop l.initial.self.task l.initial.self.woken.items);
+      left : woken_left l.who l.tasks.tasks l.self ≡ woken_left l.who l.tasks.tasks l.initial.self;
       woken : l.self.woken ≡ l.initial.self.woken;
+      bits : l.self.bits ≡ l.initial.self.bits;
       decision : l.self.decision ≡ l.initial.self.decision;
       caller : l.self.caller ≡ l.initial.self.caller;
       compared : l.self.compared ≡ l.initial.self.compared;

@@ -1,5 +1,6 @@
 use Rattle.std.proofs.Common.{◌≢◌, ◌<◌, length, None, ap, ◌∙◌, arith, below_more, length-set, get_or-set_same, get_or-set_other}
 use Rattle.kern_model.specs.State.{Task, waits_for_nothing}
+use Rattle.link_plans.specs.Matching.{holds_on}
 use Rattle.link_plans.specs.Told.{free_after, standing_by}
 use Rattle.link_plans.proofs.plan.Plan.standings.Goals as goal
 
@@ -14,5 +15,5 @@ loop-task-preserved c =
           (λ y h. let far : y ≢ x = omega arith in get_or-set_other s x y v None far ∙ c.loop-task.invariant.told y h)
           (get_or-set_same s x v None inside
           ∙ c.standing.ensures
-          ∙ ap (λ (t : Task). standing_by t.alive (free_after q.decision q.caller.0 q.woken.items x (waits_for_nothing t.waiting)) t.suspended) c.get.ensures.task);
+          ∙ ap (λ (t : Task). standing_by t.alive (free_after q.decision q.caller.0 q.woken.items x (waits_for_nothing t.waiting) (holds_on q.bits t)) t.suspended) c.get.ensures.task);
     }

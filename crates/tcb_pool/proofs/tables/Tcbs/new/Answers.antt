@@ -1,5 +1,5 @@
 use Rattle.std.proofs.Common.{◌≤◌, ◌∙◌, length, arith, ap}
-use Rattle.tcb_pool.specs.TaskView.{task_of}
+use Rattle.tcb_pool.specs.TaskView.{task_of, without_own}
 use Rattle.kern_model.specs.Start.{application_task}
 use Rattle.machine_model.specs.Start.{entry_registers}
 use Rattle.tcb_pool.specs.declared.records.Tcb.{Tcb}
@@ -11,7 +11,7 @@ pub returns-clause-tasks : goal.returns-clause-tasks
 returns-clause-tasks c =
     let few : length c.tasks.result.now ≤ 60 = omega (arith, ap (λ l. length l) c.tasks.ensures.value, c.tasks.ensures.valid.tasks_room) in
     tasks-started c.args.image.now c.config-config.result c.tasks.result.now _ _ _ _ _
-    (placed-start task_of (application_task c.config-config.result.quanta) c.tasks.result.now c.blank-records.result c.living.result c.living-2.result c.living-3.result c.place.new.records few c.place.ensures.tasks)
+    (placed-start task_of (λ d. without_own (application_task c.config-config.result.quanta d)) c.tasks.result.now c.blank-records.result c.living.result c.living-2.result c.living-3.result c.place.new.records few c.place.ensures.tasks)
     c.tasks.ensures.value c.config-config.ensures.value c.blank-records.ensures.task c.living.ensures.task c.living-2.ensures.task c.living-3.ensures.task
 
 pub returns-clause-registers : goal.returns-clause-registers

@@ -1,4 +1,4 @@
-use Rattle.std.proofs.Common.{rules, refl, sym, ap, arith, length, map, ◌<◌, ◌≡◌, ◌∙◌}
+use Rattle.std.proofs.Common.{rules, refl, sym, ap, length, map, ◌<◌, ◌≡◌, ◌∙◌}
 use Rattle.std.specs.Prelude.{slice_set, slice_index_or}
 use Rattle.std.proofs.lemmas.List.{get_or-map}
 use Rattle.rv32_exec.specs.Exec.{exec, IsExecution}

@@ -1,0 +1,17 @@
+-- The services that this program serves: any other counts as an unknown number.
+use Rattle.std.specs.Prelude.{Bool, true, false}
+use Rattle.kern_base.specs.declared.services.Service.{Service}
+use Rattle.kern_base.specs.declared.services.Service.TheVariants.{SemPost, QPost, FlagPost, TaskSemPost, TaskQPost, SemPend, QPend, FlagPend, TaskSemPend, TaskQPend}
+
+abbrev pub program_serves : Service → Bool
+program_serves SemPost = true
+program_serves QPost = true
+program_serves FlagPost = true
+program_serves TaskSemPost = true
+program_serves TaskQPost = true
+program_serves SemPend = true
+program_serves QPend = true
+program_serves FlagPend = true
+program_serves TaskSemPend = true
+program_serves TaskQPend = true
+program_serves _ = false

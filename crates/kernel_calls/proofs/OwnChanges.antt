@@ -1,0 +1,65 @@
+-- What the change of what a call is about leaves: of each task all but its own semaphore and queue, and the number of objects.
+use Rattle.std.proofs.Common.{◌≡◌, ℕ, List, [], ◌∷◌, ◌++◌, Option, Some, None, refl, ap, ◌∙◌, Bool, true, false}
+use Rattle.kern_base.specs.declared.requests.Request.{Request}
+use Rattle.kern_base.specs.declared.services.Service.TheVariants.{FlagPost}
+use Rattle.kern_base.specs.declared.outcomes.Decision.{Decision}
+use Rattle.kern_base.specs.declared.outcomes.Decision.TheVariants.{Wake}
+use Rattle.kern_base.specs.declared.outcomes.Who.TheVariants.{Matching}
+use Rattle.kern_model.specs.State.{Kernel, Object, Task, task_at}
+use Rattle.kern_model.specs.FlagBits.{ready_bits}
+use Rattle.kern_model.specs.Flags.{flag_blocks, flag_blocks_all, flag_wakes, flag_wakes_all}
+use Rattle.kern_model.specs.Micro.{Block}
+use Rattle.kern_model.specs.Services.{content_for}
+use Rattle.kern_model.proofs.Lemmas.{update_task_same}
+use Rattle.task_objects.specs.Rows.{is_task_call, target}
+use Rattle.kernel_records.specs.Deciding.{acts, changed_by, free_after, object_change, own_change, own_task_after}
+use Rattle.kernel_records.proofs.DecidingFacts.{changed-object, changed-task, own-acts, own-none}
+
+changed-keeps : {B : Type 0} (g : Task → B) → ((t : Task) (n : ℕ) (ms : List (ℕ × ℕ)) → g (record t { count = n; messages = ms }) ≡ g t) → (b : Bool) (r : Request) (x : ℕ) (d : Decision) (k : Kernel) → is_task_call r.service ≡ b → (y : ℕ) → g (task_at (changed_by r x d k) y) ≡ g (task_at k y)
+changed-keeps g same true r x d k e y =
+    ap (λ (j : Kernel). g (task_at j y)) (changed-task r x d k e)
+    ∙ update_task_same g (own_task_after r d) (λ t. same t (own_task_after r d t).count (own_task_after r d t).messages) k.tasks (target r.service r x) y
+changed-keeps g same false r x d k e y = ap (λ (j : Kernel). g (task_at j y)) (changed-object r x d k e)
+
+keeps-by : {B : Type 0} (g : Task → B) → ((t : Task) (n : ℕ) (ms : List (ℕ × ℕ)) → g (record t { count = n; messages = ms }) ≡ g t) → (b : Bool) (r : Request) (x : ℕ) (d : Decision) (k : Kernel) → acts d ≡ b → (y : ℕ) → g (task_at (own_change r x d k) y) ≡ g (task_at k y)
+keeps-by g same true r x d k e y = ap (λ (j : Kernel). g (task_at j y)) (own-acts r x d k e) ∙ changed-keeps g same (is_task_call r.service) r x d k refl y
+keeps-by g same false r x d k e y = ap (λ (j : Kernel). g (task_at j y)) (own-none r x d k e)
+
+-- a field of a task other than its own semaphore and queue
+pub own-keeps : {B : Type 0} (g : Task → B) → ((t : Task) (n : ℕ) (ms : List (ℕ × ℕ)) → g (record t { count = n; messages = ms }) ≡ g t) → (r : Request) (x : ℕ) (d : Decision) (k : Kernel) (y : ℕ) → g (task_at (own_change r x d k) y) ≡ g (task_at k y)
+own-keeps g same r x d k y = keeps-by g same (acts d) r x d k refl y
+
+-- The kernel with other objects, and another number of free messages: a post of event flags looks at the same waiters in it.
+abbrev pub beside : Kernel → List Object → ℕ → Kernel
+beside k os free = record k { objects = os; free = free }
+
+wakes-beside : (ready : Option ℕ) (h x : ℕ) (k : Kernel) (os : List Object) (free : ℕ) → flag_wakes ready h x (beside k os free) ≡ beside (flag_wakes ready h x k) os free
+wakes-beside None h x k os free = refl
+wakes-beside (Some ready) h x k os free = refl
+
+pub flag_wakes-beside : (bits h : ℕ) (xs : List ℕ) (k : Kernel) (os : List Object) (free : ℕ) → flag_wakes_all bits h xs (beside k os free) ≡ beside (flag_wakes_all bits h xs k) os free
+flag_wakes-beside bits h [] k os free = refl
+flag_wakes-beside bits h (x ∷ xs) k os free =
+    let ready = ready_bits bits (task_at k x).mask (task_at k x).opt in
+    ap (flag_wakes_all bits h xs) (wakes-beside ready h x k os free) ∙ flag_wakes-beside bits h xs (flag_wakes ready h x k) os free
+
+blocks-beside : (ready : Option ℕ) (h x : ℕ) (k : Kernel) (os : List Object) (free : ℕ) → flag_blocks ready h x (beside k os free) ≡ flag_blocks ready h x k
+blocks-beside None h x k os free = refl
+blocks-beside (Some ready) h x k os free = refl
+
+pub flag_blocks-beside : (bits h : ℕ) (xs : List ℕ) (k : Kernel) (os : List Object) (free : ℕ) → flag_blocks_all bits h xs (beside k os free) ≡ flag_blocks_all bits h xs k
+flag_blocks-beside bits h [] k os free = refl
+flag_blocks-beside bits h (x ∷ xs) k os free =
+    let ready = ready_bits bits (task_at k x).mask (task_at k x).opt in
+    ap (λ (bs : List Block). bs ++ flag_blocks_all bits h xs (beside k os free)) (blocks-beside ready h x k os free)
+    ∙ ap (λ (bs : List Block). flag_blocks ready h x k ++ bs) (flag_blocks-beside bits h xs k os free)
+
+-- what a post of event flags changes beside
+abbrev pub objects_posted : Request → Kernel → List Object
+objects_posted r k = (object_change r (Wake Matching) k).objects
+
+abbrev pub free_posted : Request → Kernel → ℕ
+free_posted r k = free_after r (Wake Matching) (content_for r k) k.free
+
+pub own-flags : (r : Request) (x : ℕ) (k : Kernel) → r.service ≡ FlagPost → own_change r x (Wake Matching) k ≡ beside k (objects_posted r k) (free_posted r k)
+own-flags r x k s = own-acts r x (Wake Matching) k refl ∙ changed-object r x (Wake Matching) k (ap is_task_call s)

@@ -1,0 +1,21 @@
+use Rattle.std.proofs.Common.{ap, sym, ◌∙◌, suc, ◌<◌, ◌≤◌, ◌≡◌, length, subst, refl, arith, inl, inr, false}
+use Rattle.std.specs.Prelude.{nat_lt}
+use Rattle.std.proofs.lemmas.Bool.Decides.{leb_tells}
+use Rattle.kern_model.specs.State.{Task}
+use Rattle.kernel_records.proofs.ObjectFacts.{field-at, task-past}
+use Rattle.kernel_records.proofs.records.Records.is_alive.Goals as goal
+
+pub returns-then-number-lt-TASKS : goal.returns-then-number-lt-TASKS
+returns-then-number-lt-TASKS c =
+    let x = c.args.number in
+    let ts = c.self.inside.tasks.tasks in
+    let h : x < length ts = subst (λ n. x < n) (sym c.self.invariant.tasks) c.if-number-lt-TASKS.true in
+    rw (← c.self.view_is) (ap (λ (t : Task). t.alive) c.get.ensures.task ∙ sym (field-at (λ (t : Task). t.alive) (λ o t. refl) c.self.inside.messages.own ts x h))
+
+pub returns-else-number-lt-TASKS : goal.returns-else-number-lt-TASKS
+returns-else-number-lt-TASKS c =
+    let x = c.args.number in
+    let ts = c.self.inside.tasks.tasks in
+    let h : length ts ≤ x = subst (λ n. n ≤ x) (sym c.self.invariant.tasks) c.if-number-lt-TASKS.false in
+    let low : nat_lt x 64 ≡ false = elim (leb_tells (suc x) 64) [ inl a ↦ absurd (omega (arith, a.1, c.if-number-lt-TASKS.false)) | inr b ↦ b.0 ] in
+    rw (← c.self.view_is) (low ∙ sym (ap (λ (t : Task). t.alive) (task-past c.self.inside.messages.own ts x h)))

@@ -1,0 +1,5 @@
+use Rattle.link_plans.proofs.MatchLaws.{matching_keep, matching_keep_prios}
+use Rattle.link_plans.proofs.laws.matching_keep.Goals as goal
+
+pub returns : goal.returns
+returns c = record { nodes = matching_keep; priorities = matching_keep_prios }

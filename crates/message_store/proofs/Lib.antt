@@ -1,0 +1,5 @@
+pub mod Alike
+pub mod Apart
+pub mod Changes
+pub mod CallFacts
+pub mod StartFacts
