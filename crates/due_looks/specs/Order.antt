@@ -1,5 +1,5 @@
 -- The numbers of the looks in the order of their moments.
-use Rattle.std.specs.Prelude.{ℕ, ◌≡◌, ◌+◌, ◌<◌, List, [], ◌∷◌, length, map, take, All, slice_index_or}
+use Rattle.std.specs.Prelude.{ℕ, ◌≡◌, ◌+◌, ◌<◌, ◌-◌, ◌^◌, List, [], ◌∷◌, length, map, take, All, slice_index_or}
 use Rattle.inject_list.specs.declared.lists.Look.{Look}
 use Rattle.inject_list.specs.declared.lists.Seen.TheVariants.{Ready}
 use Rattle.due_looks.specs.declared.queue.Timed.{Timed}
@@ -26,6 +26,10 @@ IsOf lines x = (x.number < length lines) × ((look_of lines x.number).at ≡ x.m
 pub record IsOrder (lines : List Look) (order : List Timed) : Type 0 where
   pub numbers : All (IsOf lines) order
   pub in_order : IsInOrder lines (looks_of lines order)
+
+-- the moment at a place of an order, or the last moment where the order ends before it
+abbrev pub moment_in : List Timed → ℕ → ℕ
+moment_in order place = (slice_index_or order place (record { moment = 2 ^ 64 - 1; number = 0 })).moment
 
 -- the looks that are left when the first `next` of an order have been taken
 abbrev pub left : List Look → List Timed → ℕ → List Look

@@ -2,7 +2,7 @@
 
 ghost use Rattle.std.specs.Prelude.{◌≡◌, ◌+◌, ◌≤◌, false, None, IfOk, All, length, is_some};
 ghost use Rattle.machine_model.specs.Looks.{look_at, without_look};
-ghost use Rattle.due_looks.specs.Order.{IsOrder, timed_from};
+ghost use Rattle.due_looks.specs.Order.{IsOrder, moment_in, timed_from};
 
 use inject_list::{InjectList, Look};
 use kern_base::NoMemory;
@@ -19,12 +19,14 @@ struct Timed {
 /// The looks of a list that are still to come, in the order of their lines. All memory is taken when it is made.
 ///
 /// `lines` has all looks in the order of their lines, `order` their numbers in the order of their moments, and the
-/// first `next` of that order have been taken.
+/// first `next` of that order have been taken. `moment` is that of the next one, so that one comparison tells
+/// whether it is due.
 #[derive(Drop)]
 pub struct Looks {
     lines: Vec<Look>,
     order: Vec<Timed>,
     next: usize,
+    moment: u64,
 }
 
 impl Model for Looks {
@@ -66,6 +68,16 @@ fn in_order(alloc: Global, looks: &[Look]) -> Result<Vec<Timed>, NoMemory>
     Ok(order)
 }
 
+// The moment at a place of an order, or the last moment where the order ends before it.
+fn moment_at(order: &[Timed], place: usize) -> u64
+    ensures { result ≡ moment_in order.now place }
+{
+    match order.get(place) {
+        Some(timed) => timed.moment,
+        None => u64::MAX,
+    }
+}
+
 impl Looks {
     /// The looks of a list, of which none is taken.
     pub fn new(alloc: Global, list: &InjectList) -> Result<Looks, NoMemory>
@@ -75,10 +87,12 @@ impl Looks {
         let Ok(lines) = list.looks.to_vec(alloc) else {
             return Err(NoMemory);
         };
+        let moment = moment_at(&order, 0);
         Ok(Looks {
             lines,
             order,
             next: 0,
+            moment,
         })
     }
 
@@ -94,14 +108,15 @@ impl Looks {
         }
     }
 
-    /// Whether a look is due when `s` raw steps are done, where none of an earlier moment is left.
+    /// Whether a look is due when `s` raw steps are done, where none of an earlier moment is left. It takes one
+    /// comparison where none is.
     #[inline]
     pub fn is_due(&self, s: u64) -> bool
         requires { All (λ l. s ≤ l.at) self.now }
         ensures due { result ≡ is_some (look_at s self.now) }
         ensures later { result ≡ false → All (λ l. s + 1 ≤ l.at) self.now }
     {
-        self.due(s).is_some()
+        s == self.moment && self.next < self.order.len()
     }
 
     /// Takes the look that is due when `s` raw steps are done, if there is one, where none of an earlier moment is left.
@@ -114,6 +129,7 @@ impl Looks {
     {
         let look = self.due(s)?;
         self.next += 1;
+        self.moment = moment_at(&self.order, self.next);
         Some(look)
     }
 }

@@ -8,6 +8,7 @@ use Rattle.kern_base.specs.declared.kinds.Method.{Method}
 use Rattle.kern_base.specs.declared.kinds.Method.TheVariants.{Direct, Deferred}
 use Rattle.machine_model.specs.Frames.{FrameRecord, level_of}
 use Rattle.machine_model.specs.Due.{Place, due, taken_at}
+use Rattle.machine_model.specs.Looks.{look_at}
 use Rattle.isr_nesting.specs.Nest.{IsRising, due_number, interrupts, number_at, waiting_at, without_number}
 use Rattle.isr_nesting.proofs.EnterLaws.{MayEnter, due-enters}
 use Rattle.kernel_calls.specs.Works.{WorkRecord}
@@ -36,9 +37,9 @@ due-asked a free e =
     ap (λ (b : Bool). due (is_masked a.method (hand_of a.kernel.hand)) (b && not (may_take (machine_of a))) a.s a.t a.frames.frames (interrupts a.frames)) same
     ∙ ap (λ (b : Bool). due b (free && not (may_take (machine_of a))) a.s a.t a.frames.frames (interrupts a.frames)) (masked-is a.method free (hand_of a.kernel.hand) same)
 
-by_due : (a : Parts) (free masked quiet : Bool) (o : Option Place) → a.begun ≡ true → free ≡ is_none a.kernel.hand → masked ≡ (not free && is_direct a.method) → quiet ≡ (free && not (may_take (machine_of a))) → due masked quiet a.s a.t a.frames.frames (interrupts a.frames) ≡ o → rule a.method (machine_of a) ≡ rule_of_due o (machine_of a)
-by_due a free masked quiet o begun e em eq d =
-    let first : rule a.method (machine_of a) ≡ rule_of_due (due (is_masked a.method (hand_of a.kernel.hand)) (is_quiet (machine_of a)) a.s a.t a.frames.frames (interrupts a.frames)) (machine_of a) = rw begun refl in
+by_due : (a : Parts) (free masked quiet : Bool) (o : Option Place) → a.begun ≡ true → look_at a.s a.looks ≡ None → free ≡ is_none a.kernel.hand → masked ≡ (not free && is_direct a.method) → quiet ≡ (free && not (may_take (machine_of a))) → due masked quiet a.s a.t a.frames.frames (interrupts a.frames) ≡ o → rule a.method (machine_of a) ≡ rule_of_due o (machine_of a)
+by_due a free masked quiet o begun no_look e em eq d =
+    let first : rule a.method (machine_of a) ≡ rule_of_due (due (is_masked a.method (hand_of a.kernel.hand)) (is_quiet (machine_of a)) a.s a.t a.frames.frames (interrupts a.frames)) (machine_of a) = rw (begun, no_look) refl in
     let told : due (not free && is_direct a.method) (free && not (may_take (machine_of a))) a.s a.t a.frames.frames (interrupts a.frames) ≡ o = rw (em, eq) at d in
     first ∙ ap (λ (p : Option Place). rule_of_due p (machine_of a)) (due-asked a free e ∙ told)
 
@@ -51,8 +52,8 @@ pub record Comes (a : Parts) (number : ℕ) : Type 0 where
   pub there : Contains (interrupts a.frames) place.interrupt
   pub taken : interrupts (record { frames = []; waiting = without_number number a.frames.waiting }) ≡ taken_at place.at (interrupts a.frames)
 
-pub it-comes : (a : Parts) (free masked quiet : Bool) (number : ℕ) → a.begun ≡ true → free ≡ is_none a.kernel.hand → masked ≡ (not free && is_direct a.method) → quiet ≡ (free && not (may_take (machine_of a))) → IsRising 0 a.frames.waiting → due_number masked quiet a.s a.t a.frames.frames a.frames.waiting ≡ Some number → Comes a number
-it-comes a free masked quiet number begun e em eq rise d = by (due masked quiet a.s a.t a.frames.frames (interrupts a.frames)) refl d
+pub it-comes : (a : Parts) (free masked quiet : Bool) (number : ℕ) → a.begun ≡ true → look_at a.s a.looks ≡ None → free ≡ is_none a.kernel.hand → masked ≡ (not free && is_direct a.method) → quiet ≡ (free && not (may_take (machine_of a))) → IsRising 0 a.frames.waiting → due_number masked quiet a.s a.t a.frames.frames a.frames.waiting ≡ Some number → Comes a number
+it-comes a free masked quiet number begun no_look e em eq rise d = by (due masked quiet a.s a.t a.frames.frames (interrupts a.frames)) refl d
   where
     by : (o : Option Place) → due masked quiet a.s a.t a.frames.frames (interrupts a.frames) ≡ o → option_map (λ p. number_at p.at a.frames.waiting) o ≡ Some number → Comes a number
     by None f g = cc
@@ -61,7 +62,7 @@ it-comes a free masked quiet number begun e em eq rise d = by (due masked quiet 
         let same : number_at p.at a.frames.waiting ≡ number = cc in
         record {
           place = p;
-          rule_is = by_due a free masked quiet (Some p) begun e em eq f;
+          rule_is = by_due a free masked quiet (Some p) begun no_look e em eq f;
           waits = rw same at may.interrupt;
           above = may.above;
           there = (due-is masked quiet a.s a.t a.frames.frames (interrupts a.frames) p f).there;
@@ -69,11 +70,11 @@ it-comes a free masked quiet number begun e em eq rise d = by (due masked quiet 
         }
 
 -- none does
-pub none-comes : (a : Parts) (free masked quiet : Bool) → a.begun ≡ true → free ≡ is_none a.kernel.hand → masked ≡ (not free && is_direct a.method) → quiet ≡ (free && not (may_take (machine_of a))) → due_number masked quiet a.s a.t a.frames.frames a.frames.waiting ≡ None → rule a.method (machine_of a) ≡ rule_of_frames a.frames.frames (machine_of a)
-none-comes a free masked quiet begun e em eq d = by (due masked quiet a.s a.t a.frames.frames (interrupts a.frames)) refl d
+pub none-comes : (a : Parts) (free masked quiet : Bool) → a.begun ≡ true → look_at a.s a.looks ≡ None → free ≡ is_none a.kernel.hand → masked ≡ (not free && is_direct a.method) → quiet ≡ (free && not (may_take (machine_of a))) → due_number masked quiet a.s a.t a.frames.frames a.frames.waiting ≡ None → rule a.method (machine_of a) ≡ rule_of_frames a.frames.frames (machine_of a)
+none-comes a free masked quiet begun no_look e em eq d = by (due masked quiet a.s a.t a.frames.frames (interrupts a.frames)) refl d
   where
     by : (o : Option Place) → due masked quiet a.s a.t a.frames.frames (interrupts a.frames) ≡ o → option_map (λ p. number_at p.at a.frames.waiting) o ≡ None → rule a.method (machine_of a) ≡ rule_of_frames a.frames.frames (machine_of a)
-    by None f g = by_due a free masked quiet None begun e em eq f
+    by None f g = by_due a free masked quiet None begun no_look e em eq f
     by (Some p) f g = cc
 
 pub may-enter : (a : Parts) (number : ℕ) → Comes a number → IsSomeAnd (waiting_at number a.frames.waiting) (λ i. level_of a.frames.frames < i.level)

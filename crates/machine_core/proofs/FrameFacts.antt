@@ -1,21 +1,21 @@
 -- What the machine's fields come to, where interrupt code acts.
 use Rattle.std.proofs.lemmas.Bool.Decides.{eqb_tells, leb_tells}
-use Rattle.std.specs.Prelude.{nat_lt, not, ◌==◌, is_none, option_map, All}
+use Rattle.std.specs.Prelude.{nat_lt, not, ◌==◌, if◌then◌else◌, is_none, option_map, All}
 use Rattle.std.proofs.Common.{◌≡◌, ◌<◌, inl, inr, ℕ, Bool, true, false, List, [], ◌∷◌, Option, Some, None, refl, sym, ap, ◌∙◌, subst, arith}
 use Rattle.std.proofs.lemmas.List.Elements.{All-cons, All-head, All-tail, All-contains}
 use Rattle.kern_base.specs.Numbers.{leave}
 use Rattle.kern_base.specs.Tables.{KindTable}
 use Rattle.kern_base.specs.declared.errors.OsErr.TheVariants.{CallUnknown}
-use Rattle.kern_base.specs.Services.{service_of}
+use Rattle.kern_base.specs.Services.{interrupt_error, is_post, service_of}
 use Rattle.kern_base.specs.declared.kinds.Method.{Method}
 use Rattle.kern_base.specs.declared.kinds.Method.TheVariants.{Direct, Deferred}
 use Rattle.kern_base.specs.declared.numbers.TaskId.{TaskId}
 use Rattle.kern_base.specs.declared.outcomes.Answer.{Answer}
 use Rattle.kern_base.specs.declared.services.Service.{Service}
-use Rattle.kern_base.specs.declared.services.Service.TheVariants.{SemPost, SemPend}
 use Rattle.kern_model.specs.Call.{call_of}
 use Rattle.kern_model.specs.State.{prio_of, kinds_of}
-use Rattle.kern_model.specs.Services.{post_request, program_serves}
+use Rattle.kern_model.specs.Served.{program_serves}
+use Rattle.kern_model.specs.Services.{post_request}
 use Rattle.kernel_calls.specs.KernelRecord.{KernelRecord, with_state}
 use Rattle.rv32_exec.specs.Registers.{Registers, read}
 use Rattle.rv32_exec.specs.Exec.{Execution, exec}
@@ -38,7 +38,7 @@ use Rattle.machine_laws.proofs.DueLaws.{all-taken_at}
 use Rattle.machine_laws.specs.Valid.{IsValidMachine}
 use Rattle.deferred_queue.specs.QueueRecord.{QueueRecord}
 use Rattle.machine_core.specs.Posts.{post_at_once, post_later}
-use Rattle.machine_core.specs.FrameCalls.{called_by, next_step, step_by, refused_frame, task_below}
+use Rattle.machine_core.specs.FrameCalls.{called_by, next_step, post_call, refused_call, refused_frame, step_by, task_below}
 use Rattle.machine_core.specs.MethodMachine.{next_machine}
 use Rattle.machine_core.specs.MachineView.{machine_of, method_machine_of, hand_of, IsKept, IsFitHand, HasVectors}
 use Rattle.machine_core.specs.Valid.{change, changed, most_task_steps}
@@ -75,7 +75,7 @@ module _ (a : Parts) (number : ℕ) (c : Comes a number) (n : Nest) (frames : op
   pub enters-kept : IsKept a → a.t < most_task_steps → IsKept (record a { frames = n })
   enters-kept k open_yet =
       kept-change a (record a { frames = n }) k open_yet enters-machine
-      (record { still = k.parts.still; kinds = k.parts.kinds; work = k.parts.work; size = k.parts.size; vectors = vectors-entered k.parts.vectors })
+      (record { still = k.parts.still; kinds = k.parts.kinds; work = k.parts.work; size = k.parts.size; vectors = vectors-entered k.parts.vectors; looks = k.parts.looks })
 
   pub enters-next : method_machine_of (record a { frames = n }) ≡ next_machine (method_machine_of a)
   enters-next = next-same a (record a { frames = n }) enters-machine (ap raw c.rule_is)
@@ -128,7 +128,7 @@ module _ (a : Parts) (f : FrameRecord) (below : List FrameRecord) (k : IsKept a)
   pub limit-kept : a.t < most_task_steps → IsKept (record a { frames = n; current = current })
   limit-kept open_yet =
       kept-change a (record a { frames = n; current = current }) k open_yet limit-machine
-      (record { still = k.parts.still; kinds = k.parts.kinds; work = k.parts.work; size = k.parts.size; vectors = vectors-left a f below n top nest k.parts.vectors })
+      (record { still = k.parts.still; kinds = k.parts.kinds; work = k.parts.work; size = k.parts.size; vectors = vectors-left a f below n top nest k.parts.vectors; looks = k.parts.looks })
 
 -- The top frame runs one instruction.
 
@@ -140,9 +140,12 @@ below-vectors f g below h same =
 
 module _ {X : Type 0} (way : Service → List ℕ → X → Answer × X) (kinds : KindTable) (x : X) (f : FrameRecord) (below : List FrameRecord) (h : All (λ (g : FrameRecord). g.vector < 32) (f ∷ below)) where
   vectors-called : (s : Service) (args : List ℕ) (regs : Registers) → All (λ (g : FrameRecord). g.vector < 32) ((called_by way kinds s args f regs x).frame ∷ below)
-  vectors-called SemPost args regs = below-vectors f (called_by way kinds SemPost args f regs x).frame below h refl
-  vectors-called SemPend args regs = below-vectors f (called_by way kinds SemPend args f regs x).frame below h refl
-  vectors-called _ args regs = below-vectors f (refused_frame CallUnknown f regs) below h refl
+  vectors-called s args regs = by (program_serves s) (is_post s)
+    where
+      by : (b c : Bool) → All (λ (g : FrameRecord). g.vector < 32) ((if b then (if c then post_call way kinds s args f regs x else refused_call way kinds s (interrupt_error s) f regs x) else refused_call way kinds s CallUnknown f regs x).frame ∷ below)
+      by true true = below-vectors f (post_call way kinds s args f regs x).frame below h refl
+      by true false = below-vectors f (refused_frame (interrupt_error s) f regs) below h refl
+      by false c = below-vectors f (refused_frame CallUnknown f regs) below h refl
 
   vectors-next : (b : Bool) (regs : Registers) (marks memory : List ℕ) → All (λ (g : FrameRecord). g.vector < 32) (next_step way kinds b f below regs marks memory x).frames
   vectors-next true regs marks memory = All-tail (λ (g : FrameRecord). g.vector < 32) f below h
@@ -223,4 +226,5 @@ module _ (a : Parts) (f : FrameRecord) (below : List FrameRecord) (k : IsKept a)
           work = rw kernel_is (work-runs a f below a.method refl k top);
           size = size ∙ k.parts.size;
           vectors = rw nest (record { frames = vectors-runs a.method (machine_of a) f below (rw top at k.parts.vectors.frames); waiting = k.parts.vectors.waiting });
+          looks = k.parts.looks;
         })

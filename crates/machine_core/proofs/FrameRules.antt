@@ -2,17 +2,17 @@
 use Rattle.std.specs.Prelude.{◌==◌, ◌&&◌, if◌then◌else◌}
 use Rattle.std.proofs.Common.{◌≡◌, ℕ, Bool, true, false, List, ◌∷◌, Option, Some, None, refl, sym, ap, ◌∙◌}
 use Rattle.kern_base.specs.Numbers.{leave}
-use Rattle.kern_base.specs.Services.{service_of}
+use Rattle.kern_base.specs.Services.{interrupt_error, is_post, service_of}
 use Rattle.kern_base.specs.Checks.{static_error}
 use Rattle.kern_base.specs.Tables.{KindTable}
 use Rattle.kern_base.specs.declared.kinds.Method.{Method}
 use Rattle.kern_base.specs.declared.kinds.Method.TheVariants.{Direct, Deferred}
 use Rattle.kern_base.specs.declared.errors.OsErr.{OsErr}
+use Rattle.kern_base.specs.declared.errors.OsErr.TheVariants.{CallUnknown}
 use Rattle.kern_base.specs.declared.outcomes.Answer.{Answer}
 use Rattle.kern_base.specs.declared.services.Service.{Service}
-use Rattle.kern_base.specs.declared.services.Service.TheVariants.{SemPost, SemPend}
 use Rattle.kern_model.specs.State.{Kernel, prio_of, kinds_of}
-use Rattle.kern_model.specs.Services.{program_serves}
+use Rattle.kern_model.specs.Served.{program_serves}
 use Rattle.kernel_calls.specs.KernelRecord.{KernelRecord}
 use Rattle.rv32_exec.specs.Registers.{Registers, read}
 use Rattle.rv32_exec.specs.Exec.{Execution, exec}
@@ -27,11 +27,11 @@ use Rattle.machine_model.specs.declared.events.What.TheVariants.{Quiet}
 use Rattle.machine_model.specs.Machine.{Machine}
 use Rattle.machine_model.specs.Answers.{Change}
 use Rattle.machine_model.specs.Settling.{settled, is_free}
-use Rattle.machine_model.specs.Interrupts.{queues, posts_by, checked_post, leaves, frame_goes_on, frame_calls, frame_did, frame_runs, argument_words, ran}
+use Rattle.machine_model.specs.Interrupts.{queues, posts_by, checked_post, leaves, frame_goes_on, frame_calls, frame_posts, frame_refused, frame_did, frame_runs, argument_words, ran}
 use Rattle.deferred_queue.specs.QueueRecord.{QueueRecord}
 use Rattle.machine_model.proofs.CountLaws.{choice}
 use Rattle.machine_core.specs.Posts.{post_at_once, post_later, joined}
-use Rattle.machine_core.specs.FrameCalls.{FrameStep, checked_to, called_by, left_step, next_step, call_step, step_by, task_below}
+use Rattle.machine_core.specs.FrameCalls.{FrameStep, checked_to, called_by, post_call, refused_call, left_step, next_step, call_step, step_by, task_below}
 
 -- What leaving keeps.
 
@@ -64,9 +64,12 @@ module _ (d : Method) where
       (comes-leaves how.Ret f below m) (record { machine = refl })
 
   comes-calls : (s : Service) (args : List ℕ) (f : FrameRecord) (below : List FrameRecord) (regs : Registers) (m : Machine) → ComesTo m (frame_calls program_serves d s args f below regs m)
-  comes-calls SemPost args f below regs m = record { machine = refl }
-  comes-calls SemPend args f below regs m = record { machine = refl }
-  comes-calls _ args f below regs m = record { machine = refl }
+  comes-calls s args f below regs m = by (program_serves s) (is_post s)
+    where
+      by : (b c : Bool) → ComesTo m (if b then (if c then frame_posts program_serves d s args f below regs m else frame_refused program_serves d s (interrupt_error s) f below regs m) else frame_refused program_serves d s CallUnknown f below regs m)
+      by true true = record { machine = refl }
+      by true false = record { machine = refl }
+      by false c = record { machine = refl }
 
   comes-did : (did : Stepped) (e : Execution) (f : FrameRecord) (below : List FrameRecord) (marks : List ℕ) (m : Machine) → ComesTo m (frame_did program_serves d did e f below marks m)
   comes-did Next e f below marks m = comes-goes_on f below e.registers marks m
@@ -107,9 +110,16 @@ module _ {X : Type 0} (way : Service → List ℕ → X → Answer × X) (kernel
     step-goes_on false f below regs marks = record { what = refl; frames = refl; memory = refl; kernel = kernel; later = later }
 
     step-calls : (s : Service) (args : List ℕ) (f : FrameRecord) (below : List FrameRecord) (regs : Registers) → IsStep (frame_calls program_serves d s args f below regs m) (call_step way (kinds_of m.kernel) (called_by way (kinds_of m.kernel) s args f regs x) below m.memory)
-    step-calls SemPost args f below regs = rw (checked (static_error SemPost args (kinds_of m.kernel) false) SemPost args) (record { what = refl; frames = refl; memory = refl; kernel = refl; later = refl })
-    step-calls SemPend args f below regs = record { what = refl; frames = refl; memory = refl; kernel = kernel; later = later }
-    step-calls _ args f below regs = record { what = refl; frames = refl; memory = refl; kernel = kernel; later = later }
+    step-calls s args f below regs = by (program_serves s) (is_post s)
+      where
+        kinds : KindTable
+        kinds = kinds_of m.kernel
+
+        by : (b c : Bool) → IsStep (if b then (if c then frame_posts program_serves d s args f below regs m else frame_refused program_serves d s (interrupt_error s) f below regs m) else frame_refused program_serves d s CallUnknown f below regs m)
+            (call_step way kinds (if b then (if c then post_call way kinds s args f regs x else refused_call way kinds s (interrupt_error s) f regs x) else refused_call way kinds s CallUnknown f regs x) below m.memory)
+        by true true = rw (checked (static_error s args kinds false) s args) (record { what = refl; frames = refl; memory = refl; kernel = refl; later = refl })
+        by true false = record { what = refl; frames = refl; memory = refl; kernel = kernel; later = later }
+        by false c = record { what = refl; frames = refl; memory = refl; kernel = kernel; later = later }
 
     step-did : (did : Stepped) (e : Execution) (f : FrameRecord) (below : List FrameRecord) (marks : List ℕ) → IsStep (frame_did program_serves d did e f below marks m) (step_by way (kinds_of m.kernel) did e f below marks m.memory x)
     step-did Next e f below marks = step-goes_on (e.registers.pc == leave) f below e.registers marks
@@ -129,9 +139,12 @@ module _ {X : Type 0} (way : Service → List ℕ → X → Answer × X) (kinds 
   keeps-checked None s args = goes s args
 
   keeps-called : (s : Service) (args : List ℕ) (f : FrameRecord) (regs : Registers) → P (called_by way kinds s args f regs x).after
-  keeps-called SemPost args f regs = keeps-checked (static_error SemPost args kinds false) SemPost args
-  keeps-called SemPend args f regs = here
-  keeps-called _ args f regs = here
+  keeps-called s args f regs = by (program_serves s) (is_post s)
+    where
+      by : (b c : Bool) → P (if b then (if c then post_call way kinds s args f regs x else refused_call way kinds s (interrupt_error s) f regs x) else refused_call way kinds s CallUnknown f regs x).after
+      by true true = keeps-checked (static_error s args kinds false) s args
+      by true false = here
+      by false c = here
 
   keeps-next : (b : Bool) (f : FrameRecord) (below : List FrameRecord) (regs : Registers) (marks memory : List ℕ) → P (next_step way kinds b f below regs marks memory x).after
   keeps-next true f below regs marks memory = here

@@ -1,7 +1,7 @@
 -- What is always true of the machine's fields stays true with each event.
 use Rattle.std.proofs.Common.{◌≡◌, ◌<◌, ◌≤◌, ℕ, ◌+◌, sym, ap, ◌∙◌, subst, arith}
 use Rattle.kern_base.specs.declared.kinds.Method.{Method}
-use Rattle.kern_model.specs.Services.{program_serves}
+use Rattle.kern_model.specs.Served.{program_serves}
 use Rattle.machine_core.specs.MachineView.{Parts}
 use Rattle.machine_model.specs.Machine.{Machine}
 use Rattle.machine_model.specs.Bound.{events_left}
@@ -15,6 +15,7 @@ use Rattle.machine_core.specs.MethodMachine.{MethodMachine, next_machine}
 use Rattle.machine_core.specs.MachineView.{machine_of, method_machine_of, IsKept, AreParts}
 use Rattle.machine_core.specs.Valid.{most_task_steps, change, changed}
 use Rattle.machine_core.proofs.CurrentLaws.{current-done}
+use Rattle.machine_core.proofs.LookLaws.{looks_after, looks-done, to_come-after, to_come-step}
 
 -- with other raw steps it is as valid
 valid-steps : (d : Method) (m : Machine) (s : ℕ) → IsValidMachine program_serves d m → IsValidMachine program_serves d (record m { s = s })
@@ -53,6 +54,9 @@ module _ (a b : Parts) (k : IsKept a) (open_yet : a.t < most_task_steps) (whole 
       let next_one = current-done program_serves a.method (rule a.method m) m k.current (valid-done program_serves a.method (rule a.method m) m (applies a.method m) k.valid).kernel in
       subst (λ (n : Machine). n.current < 64) (sym e) next_one
 
+  looks : b.looks ≡ looks_after (rule a.method m) m
+  looks = ap (λ (n : Machine). n.looks) e ∙ looks-done program_serves a.method (rule a.method m) m
+
   -- before the raw step is counted
   pub kept-change : IsKept b
   kept-change = record {
@@ -61,16 +65,18 @@ module _ (a b : Parts) (k : IsKept a) (open_yet : a.t < most_task_steps) (whole 
     current = current;
     within = task_steps;
     few = let l = k.few in omega (arith, l, fewer, same_steps);
+    to_come = rw (same_steps, looks) (to_come-after (rule a.method m) m k.to_come);
   }
 
-  -- with at most one raw step more
-  pub kept-steps : (steps : ℕ) → steps ≤ 1 → IsKept (record b { s = b.s + steps })
-  kept-steps steps one = record {
-    valid = valid-steps b.method (machine_of b) (b.s + steps) valid;
-    parts = record { still = parts.still; kinds = parts.kinds; work = parts.work; size = parts.size; vectors = parts.vectors };
+  -- with the raw step
+  pub kept-step : raw (rule a.method m) ≡ 1 → IsKept (record b { s = b.s + 1 })
+  kept-step one = record {
+    valid = valid-steps b.method (machine_of b) (b.s + 1) valid;
+    parts = record { still = parts.still; kinds = parts.kinds; work = parts.work; size = parts.size; vectors = parts.vectors; looks = parts.looks };
     current = current;
     within = task_steps;
-    few = let l = k.few in omega (arith, l, fewer, same_steps, one);
+    few = let l = k.few in omega (arith, l, fewer, same_steps);
+    to_come = rw (same_steps, looks) (to_come-step a.method (rule a.method m) m (applies a.method m) one k.to_come);
   }
 
 -- The raw steps of an event.

@@ -4,12 +4,17 @@ pub mod StillLaws
 pub mod OutcomeLaws
 pub mod PrintLaws
 pub mod CurrentLaws
+pub mod LookLaws
 pub mod KeptLaws
 pub mod MachineFacts
+pub mod TakeFacts
 pub mod StartFacts
 pub mod QuietExec
 pub mod ComingLaws
 pub mod TopLaws
+pub mod HandlerLaws
+pub mod ChainLaws
+pub mod LookFacts
 pub mod FrameRules
 pub mod FrameFacts
 pub mod IsrLaws

@@ -21,7 +21,8 @@ use Rattle.kern_model.specs.State.{Kernel, task_at, prio_of}
 use Rattle.kern_model.specs.Effect.{Effect}
 use Rattle.kern_model.specs.Finish.{finished}
 use Rattle.kern_model.specs.Valid.{has_result}
-use Rattle.kern_model.specs.Services.{post_request, program_serves, cost}
+use Rattle.kern_model.specs.Served.{program_serves}
+use Rattle.kern_model.specs.Services.{post_request, cost}
 use Rattle.kernel_calls.specs.KernelRecord.{KernelRecord, IsOpen, ended, with_state}
 use Rattle.kernel_calls.specs.Works.{WorkRecord, begun, effect_of, stepped}
 use Rattle.machine_core.specs.MachineView.{Parts}
@@ -236,6 +237,7 @@ more-kept a h n k r e open_yet p s =
       work = subst (λ (j : KernelRecord). IsFitHand a.config j.hand) (sym s) (fit-stepped (h.caller == 63) a.config h fits);
       size = k.parts.size;
       vectors = k.parts.vectors;
+      looks = k.parts.looks;
     })
 
 -- the last micro-step of a call, by its outcome
@@ -310,7 +312,7 @@ module _ (a : Parts) (h : WorkRecord) (k : IsKept a) (r : GoesOn a.method (machi
           let free : n.hand ≡ None = ap (λ (j : KernelRecord). j.hand) ends ∙ ended-hand (ended a.kernel h) a.current.0 h.request.service f.outcome in
           let steady : IsSteady a.kinds n.state = rw state (steady-effect a.kinds (call_of h.request h.caller h.interrupted h.compared) a.kernel.state (steady_in a k)) in
           kept-change a (record a { kernel = n; current = current; t = a.t + 1 }) k open_yet last-machine
-          (record { still = steady.still; kinds = steady.kinds; work = rw free tt; size = k.parts.size; vectors = k.parts.vectors })
+          (record { still = steady.still; kinds = steady.kinds; work = rw free tt; size = k.parts.size; vectors = k.parts.vectors; looks = k.parts.looks })
 
   -- a take
   module _ (takes : (h.caller == 63) ≡ true) where
@@ -329,7 +331,7 @@ module _ (a : Parts) (h : WorkRecord) (k : IsKept a) (r : GoesOn a.method (machi
       take-kept open_yet =
           let steady : IsSteady a.kinds n.state = rw ends (steady-effect a.kinds (call_of h.request h.caller h.interrupted h.compared) a.kernel.state (steady_in a k)) in
           kept-change a (record a { kernel = n; later = later; current = current }) k open_yet take-machine
-          (record { still = steady.still; kinds = steady.kinds; work = rw ends tt; size = rw leaves k.parts.size; vectors = k.parts.vectors })
+          (record { still = steady.still; kinds = steady.kinds; work = rw ends tt; size = rw leaves k.parts.size; vectors = k.parts.vectors; looks = k.parts.looks })
 
     -- a post waits
     pub waits-take : none_waits a.later.posts ≡ false
@@ -392,7 +394,7 @@ module _ (a : Parts) (k : IsKept a) (r : GoesOn a.method (machine_of a)) (free :
     pub begin-kept : a.t < most_task_steps → compared ≡ handler_compares a.config saved → IsKept (record a { kernel = n })
     begin-kept open_yet c =
         kept-change a (record a { kernel = n }) k open_yet begin-machine
-        (record { still = rw work k.parts.still; kinds = rw work k.parts.kinds; work = rw work (refl, c); size = k.parts.size; vectors = k.parts.vectors })
+        (record { still = rw work k.parts.still; kinds = rw work k.parts.kinds; work = rw work (refl, c); size = k.parts.size; vectors = k.parts.vectors; looks = k.parts.looks })
 
 -- no task of the application is the handler
 pub not_handler : (x : ℕ) → x < 60 → (x == 63) ≡ false

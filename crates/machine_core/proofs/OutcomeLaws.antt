@@ -1,19 +1,26 @@
 -- No service that is served answers with a table.
 use Rattle.std.specs.Prelude.{if◌then◌else◌, ◌==◌, ◌-◌, ◌+◌, ◌^◌}
-use Rattle.std.proofs.Common.{◌≡◌, ℕ, zero, suc, List, [], ◌∷◌, refl, Bool, true, false, Option, Some, None}
+use Rattle.std.proofs.Common.{◌≡◌, ℕ, zero, suc, List, [], ◌∷◌, length, refl, Bool, true, false, Option, Some, None}
 use Rattle.std.proofs.lemmas.Bool.{false≢true}
 use Rattle.kern_base.specs.declared.services.Service.{Service}
-use Rattle.kern_base.specs.declared.services.Service.TheVariants.{SemPost, SemPend}
+use Rattle.kern_base.specs.declared.services.Service.TheVariants.{SemPost, QPost, FlagPost, TaskSemPost, TaskQPost, SemPend, QPend, FlagPend, TaskSemPend, TaskQPend}
 use Rattle.kern_base.specs.declared.requests.Request.{Request}
 use Rattle.kern_base.specs.declared.errors.OsErr.{OsErr}
 use Rattle.kern_base.specs.declared.errors.OsErr.TheVariants.{SemOverflow, SchedLocked, CallUnknown}
-use Rattle.kern_base.specs.declared.outcomes.Waiting.TheVariants.{Obj}
+use Rattle.kern_base.specs.declared.outcomes.Waiting.{Waiting}
+use Rattle.kern_base.specs.declared.outcomes.Waiting.TheVariants.{No, Delay, Obj, TaskSem, TaskQ, Multi, Signal}
 use Rattle.kern_model.specs.Call.{Call}
-use Rattle.kern_model.specs.State.{Kernel, Content, Count, Messages, Bits, Held, Timed, list_at, object_at, with_content}
-use Rattle.kern_model.specs.Effect.{Effect, refused, done, fine, waits_unless, blocks_on, waits_for}
-use Rattle.kern_model.specs.Checks.{argument, call_error}
+use Rattle.kern_model.specs.State.{Kernel, Content, Count, Messages, Bits, Held, Timed, list_at, object_at, task_at, with_content, with_task}
+use Rattle.kern_model.specs.Effect.{Effect, Wait, refused, done, fine, waits_unless, blocks_on, waits_for}
+use Rattle.kern_model.specs.Checks.{argument, call_error, named_task}
+use Rattle.kern_model.specs.FlagBits.{ready_bits}
+use Rattle.kern_model.specs.Flags.{flag_pend, flag_pend_on, flag_post}
+use Rattle.kern_model.specs.Options.{does_not_wait, flags_do_not_wait, stores_first}
+use Rattle.kern_model.specs.Queues.{q_pend, q_post, q_post_to, store_error, store_in, stored}
+use Rattle.kern_model.specs.TaskObjects.{task_q_pend_on, task_q_post_to, task_sem_pend_on, task_sem_post_to, task_store}
 use Rattle.kern_model.specs.Semaphores.{sem_post_to, sem_post, sem_pend}
-use Rattle.kern_model.specs.Services.{effect, program_serves, after_checks, perform}
+use Rattle.kern_model.specs.Served.{program_serves}
+use Rattle.kern_model.specs.Services.{effect, after_checks, perform}
 use Rattle.machine_core.specs.AnswerView.{HasNoTable}
 use Rattle.machine_model.proofs.CountLaws.{choice}
 
@@ -43,9 +50,92 @@ plain-sem_pend (Bits bits) r x k = refl
 plain-sem_pend (Held owner nesting) r x k = refl
 plain-sem_pend (Timed t) r x k = refl
 
+-- a queue
+
+plain-store_in : (e : Option OsErr) (o limit : ℕ) (ms : List (ℕ × ℕ)) (k : Kernel) → Plain (store_in e o limit ms k)
+plain-store_in (Some err) o limit ms k = refl
+plain-store_in None o limit ms k = refl
+
+plain-q_post_to : (xs : List ℕ) (limit : ℕ) (ms : List (ℕ × ℕ)) (r : Request) (h : ℕ) (k : Kernel) → Plain (q_post_to xs limit ms r h k)
+plain-q_post_to [] limit ms r h k =
+    plain-store_in (store_error (length ms) limit k.free) (argument r 0) limit (stored (stores_first (argument r 3)) (argument r 1, argument r 2) ms) k
+plain-q_post_to (x ∷ xs) limit ms r h k = refl
+
+plain-q_post : (c : Content) (r : Request) (h : ℕ) (k : Kernel) → Plain (q_post c r h k)
+plain-q_post (Messages limit ms) r h k = plain-q_post_to (list_at k.pend (argument r 0)) limit ms r h k
+plain-q_post (Count n) r h k = refl
+plain-q_post (Bits bits) r h k = refl
+plain-q_post (Held owner nesting) r h k = refl
+plain-q_post (Timed t) r h k = refl
+
+plain-q_pend : (c : Content) (r : Request) (x : ℕ) (k : Kernel) → Plain (q_pend c r x k)
+plain-q_pend (Messages limit []) r x k = plain-tail k (does_not_wait (argument r 2)) (blocks_on k x (waits_for (Obj QPend) (argument r 0 ∷ []) (argument r 1))) tt
+plain-q_pend (Messages limit (m ∷ ms)) r x k = refl
+plain-q_pend (Count n) r x k = refl
+plain-q_pend (Bits bits) r x k = refl
+plain-q_pend (Held owner nesting) r x k = refl
+plain-q_pend (Timed t) r x k = refl
+
+-- event flags
+
+plain-flag_post : (c : Content) (r : Request) (h : ℕ) (k : Kernel) → Plain (flag_post c r h k)
+plain-flag_post (Bits bits) r h k = refl
+plain-flag_post (Count n) r h k = refl
+plain-flag_post (Messages limit ms) r h k = refl
+plain-flag_post (Held owner nesting) r h k = refl
+plain-flag_post (Timed t) r h k = refl
+
+plain-flag_pend_on : (ready : Option ℕ) (bits : ℕ) (r : Request) (x : ℕ) (k : Kernel) → Plain (flag_pend_on ready bits r x k)
+plain-flag_pend_on None bits r x k =
+    let w : Wait = record { waiting = Obj FlagPend; objects = argument r 0 ∷ []; mask = argument r 1; opt = argument r 3; table = 0; timeout = argument r 2 } in
+    plain-tail k (flags_do_not_wait (argument r 3)) (blocks_on k x w) tt
+plain-flag_pend_on (Some ready) bits r x k = refl
+
+plain-flag_pend : (c : Content) (r : Request) (x : ℕ) (k : Kernel) → Plain (flag_pend c r x k)
+plain-flag_pend (Bits bits) r x k = plain-flag_pend_on (ready_bits bits (argument r 1) (argument r 3)) bits r x k
+plain-flag_pend (Count n) r x k = refl
+plain-flag_pend (Messages limit ms) r x k = refl
+plain-flag_pend (Held owner nesting) r x k = refl
+plain-flag_pend (Timed t) r x k = refl
+
+-- a task's own semaphore and queue
+
+plain-task_sem_post_to : (w : Waiting) (y h : ℕ) (k : Kernel) → Plain (task_sem_post_to w y h k)
+plain-task_sem_post_to TaskSem y h k = refl
+plain-task_sem_post_to _ y h k =
+    choice Plain ((task_at k y).count == 2 ^ 32 - 1) (refused k SemOverflow) (done (with_task k y (λ t. record t { count = (task_at k y).count + 1 })) (fine ((task_at k y).count + 1))) refl refl
+
+plain-task_store : (e : Option OsErr) (y : ℕ) (ms : List (ℕ × ℕ)) (k : Kernel) → Plain (task_store e y ms k)
+plain-task_store (Some err) y ms k = refl
+plain-task_store None y ms k = refl
+
+plain-task_q_post_to : (w : Waiting) (r : Request) (y h : ℕ) (k : Kernel) → Plain (task_q_post_to w r y h k)
+plain-task_q_post_to TaskQ r y h k = refl
+plain-task_q_post_to _ r y h k =
+    let t = task_at k y in
+    plain-task_store (store_error (length t.messages) t.limit k.free) y (stored (stores_first (argument r 3)) (argument r 1, argument r 2) t.messages) k
+
+plain-task_sem_pend_on : (n : ℕ) (r : Request) (x : ℕ) (k : Kernel) → Plain (task_sem_pend_on n r x k)
+plain-task_sem_pend_on zero r x k = plain-tail k (does_not_wait (argument r 1)) (blocks_on k x (waits_for TaskSem [] (argument r 0))) tt
+plain-task_sem_pend_on (suc n) r x k = refl
+
+plain-task_q_pend_on : (ms : List (ℕ × ℕ)) (r : Request) (x : ℕ) (k : Kernel) → Plain (task_q_pend_on ms r x k)
+plain-task_q_pend_on [] r x k = plain-tail k (does_not_wait (argument r 1)) (blocks_on k x (waits_for TaskQ [] (argument r 0))) tt
+plain-task_q_pend_on (m ∷ ms) r x k = refl
+
+-- each of them
+
 plain-perform : (s : Service) (call : Call) (k : Kernel) → program_serves s ≡ true → Plain (perform s call k)
 plain-perform SemPost call k e = plain-sem_post (object_at k (argument call.request 0)).content call.request call.compared k
+plain-perform QPost call k e = plain-q_post (object_at k (argument call.request 0)).content call.request call.compared k
+plain-perform FlagPost call k e = plain-flag_post (object_at k (argument call.request 0)).content call.request call.compared k
+plain-perform TaskSemPost call k e = let y = named_task call.request call.caller in plain-task_sem_post_to (task_at k y).waiting y call.compared k
+plain-perform TaskQPost call k e = let y = named_task call.request call.caller in plain-task_q_post_to (task_at k y).waiting call.request y call.compared k
 plain-perform SemPend call k e = plain-sem_pend (object_at k (argument call.request 0)).content call.request call.caller k
+plain-perform QPend call k e = plain-q_pend (object_at k (argument call.request 0)).content call.request call.caller k
+plain-perform FlagPend call k e = plain-flag_pend (object_at k (argument call.request 0)).content call.request call.caller k
+plain-perform TaskSemPend call k e = plain-task_sem_pend_on (task_at k call.caller).count call.request call.caller k
+plain-perform TaskQPend call k e = plain-task_q_pend_on (task_at k call.caller).messages call.request call.caller k
 plain-perform _ call k e = absurd (false≢true e)
 
 plain-checked : (o : Option OsErr) (call : Call) (k : Kernel) → program_serves call.request.service ≡ true → Plain (after_checks o call k)

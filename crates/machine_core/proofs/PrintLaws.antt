@@ -1,6 +1,6 @@
 -- The lines of any event have room, where those of a look have.
 use Rattle.std.specs.Prelude.{if◌then◌else◌, ◌==◌}
-use Rattle.std.proofs.Common.{◌≡◌, ℕ, ◌+◌, Bool, List, [], ◌∷◌, Option, Some, None, refl, subst}
+use Rattle.std.proofs.Common.{◌≡◌, ℕ, ◌+◌, Bool, List, ◌∷◌, Option, Some, None, refl, sym, subst, ◌∙◌}
 use Rattle.kern_base.specs.declared.kinds.Method.{Method}
 use Rattle.kern_base.specs.declared.services.Service.{Service}
 use Rattle.kern_base.specs.declared.errors.OsErr.TheVariants.{CallUnknown}
@@ -28,7 +28,7 @@ use Rattle.machine_model.specs.Interrupts.{leaves, frame_goes_on, frame_calls, f
 use Rattle.machine_model.specs.Steps.{call_ends, unit_ends, unit_line, ends, advances}
 use Rattle.machine_model.specs.Acts.{acts, instructs, idles, starts_unit, works_in_units}
 use Rattle.machine_model.specs.Looks.{looks, look_at}
-use Rattle.machine_model.specs.Rules.{Rule, Begins, Looks, Enters, FrameLimit, FrameRuns, MicroStep, TakeBegins, TaskActs, rule, done, next}
+use Rattle.machine_model.specs.Rules.{Rule, Begins, Looks, Enters, FrameLimit, FrameRuns, MicroStep, TakeBegins, TaskActs, rule, done}
 use Rattle.machine_model.specs.Text.{IsPrintable}
 use Rattle.machine_model.proofs.CountLaws.{choice}
 use Rattle.machine_laws.specs.RuleTable.{ALookIsHere, Applies}
@@ -116,11 +116,11 @@ module _ (served : Service → Bool) (method : Method) where
   printable-done (TakeBegins q) m look = tt
   printable-done TaskActs m look = printable-acts served m.current (task_at m.kernel m.current).answered m
 
-  -- where no look is to come
-  pub printable-next : (m : Machine) → m.looks ≡ [] → IsPrintable (next served method m).0.what
+  -- where no look has this moment
+  pub printable-next : (m : Machine) → look_at m.s m.looks ≡ None → IsPrintable (done served method (rule method m) m).what
   printable-next m none =
       printable-done (rule method m) m
       (λ l e.
       let a : ALookIsHere l m = subst (λ (r : Rule). Applies method r m) e (applies method m) in
-      let no : look_at m.s [] ≡ Some l = rw none at a.look in
+      let no : None ≡ Some l = sym none ∙ a.look in
       cc)

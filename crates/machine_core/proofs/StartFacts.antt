@@ -1,6 +1,6 @@
 -- The machine at its start.
-use Rattle.std.specs.Prelude.{length, map, All, ◌==◌}
-use Rattle.std.proofs.Common.{◌≡◌, ◌<◌, ◌≤◌, ℕ, ◌+◌, ◌*◌, true, false, List, [], ◌∷◌, None, inl, inr, refl, sym, ap, ◌∙◌, subst, arith}
+use Rattle.std.specs.Prelude.{length, map, All, slice_get, ◌==◌}
+use Rattle.std.proofs.Common.{◌≡◌, ◌<◌, ◌≤◌, ℕ, zero, suc, ◌+◌, ◌*◌, true, false, List, [], ◌∷◌, None, inl, inr, refl, sym, ap, ◌∙◌, subst, arith}
 use Rattle.std.proofs.lemmas.List.{length-map}
 use Rattle.std.proofs.lemmas.List.Elements.{All-nil, All-cons, All-head, All-tail}
 use Rattle.std.proofs.lemmas.Bool.{false≢true}
@@ -11,14 +11,18 @@ use Rattle.kern_base.specs.declared.kinds.Kind.TheVariants.{Sem, Queue, Flags, M
 use Rattle.kern_base.specs.Tables.{KindTable}
 use Rattle.kern_model.specs.State.{Object, kind_of, kinds_of, pick}
 use Rattle.kern_model.specs.Start.{start_state, content_of, object_of}
-use Rattle.kern_model.specs.Services.{program_serves}
+use Rattle.kern_model.specs.Served.{program_serves}
 use Rattle.kern_model.proofs.Lemmas.{choice, equal, or_either}
 use Rattle.app_image.specs.Image.{ImageRecord, IsValidImage, IsValidVector, kind_table}
 use Rattle.app_image.specs.declared.records.ObjDef.{ObjDef}
 use Rattle.deferred_queue.specs.QueueRecord.{QueueRecord}
 use Rattle.app_image.specs.declared.records.VectorDef.{VectorDef}
 use Rattle.app_image.specs.Layout.{HasWords}
-use Rattle.inject_list.specs.Lists.{ListRecord, IsValidList, IsInjection, is_declared, most_entries}
+use Rattle.inject_list.specs.Lists.{ListRecord, IsValidList, IsInjection, IsSeen, IsSeenObject, is_declared, most_entries}
+use Rattle.inject_list.specs.declared.lists.Look.{Look}
+use Rattle.inject_list.specs.declared.lists.Seen.{Seen}
+use Rattle.inject_list.specs.declared.lists.Seen.TheVariants.{Obj, Ready as ReadyList}
+use Rattle.machine_core.specs.LookView.{IsShown, IsToCome}
 use Rattle.inject_list.specs.declared.lists.Injection.{Injection}
 use Rattle.machine_model.specs.Frames.{Interrupt, FrameRecord, interrupt_of, interrupts_of}
 use Rattle.isr_nesting.specs.Nest.{Nest, interrupts, unnumbered, numbered}
@@ -102,10 +106,35 @@ kinds-objects (d ∷ ds) = rw (kind-content d.kind d.f, kinds-objects ds) refl
 kinds-start : (image : ImageRecord) → kinds_of (start_state image) ≡ kind_table image
 kinds-start image = ap (λ kinds. let t : KindTable = record { objects = kinds; tasks = length image.tasks } in t) (kinds-objects image.objects)
 
+-- the looks are at lists that there are
+
+object-inside : (ds : List ObjDef) (o : ℕ) → IsSeenObject (slice_get ds o) → o < length ds
+object-inside [] zero h = absurd h
+object-inside [] (suc o) h = absurd h
+object-inside (d ∷ ds) zero h = omega arith
+object-inside (d ∷ ds) (suc o) h = let rest = object-inside ds o h in omega (arith, rest)
+
+shown-seen : (image : ImageRecord) (seen : Seen) → length image.objects ≤ 64 → IsSeen image seen → IsShown (length image.objects) seen
+shown-seen image (Obj o) few h = let inside = object-inside image.objects o.0 h in (inside, omega (arith, inside, few))
+shown-seen image (ReadyList p) few h = omega (arith, h)
+
+looks-shown : (image : ImageRecord) (looks : List Look) → length image.objects ≤ 64 → All (λ l. IsSeen image l.what) looks → All (λ l. IsShown (length image.objects) l.what) looks
+looks-shown image [] few h = All-nil (λ (l : Look). IsShown (length image.objects) l.what)
+looks-shown image (l ∷ ls) few h =
+    All-cons (λ (x : Look). IsShown (length image.objects) x.what) l ls
+    (shown-seen image l.what few (All-head (λ (x : Look). IsSeen image x.what) l ls h))
+    (looks-shown image ls few (All-tail (λ (x : Look). IsSeen image x.what) l ls h))
+
+-- none lies before the start
+all-to_come : (looks : List Look) → All (IsToCome 0) looks
+all-to_come [] = All-nil (IsToCome 0)
+all-to_come (l ∷ ls) = All-cons (IsToCome 0) l ls (omega arith) (all-to_come ls)
+
 pub kept-loaded : (image : ImageRecord) (list : ListRecord) (a : Parts) → IsValidImage image → HasWords image → IsValidList image list → machine_of a ≡ start image list → a.kinds ≡ kind_table image → a.later.size ≡ image.config.defer_size → IsKept a
 kept-loaded image list a h words l e kinds size =
     let s : a.s ≡ 0 = ap (λ (m : Machine). m.s) e in
     let t : a.t ≡ 0 = ap (λ (m : Machine). m.t) e in
+    let looks : a.looks ≡ list.looks = ap (λ (m : Machine). m.looks) e in
     let none : hand_of a.kernel.hand ≡ None = ap (λ (m : Machine). m.in_hand) e in
     let still : IsStill (start image list).kernel = record { tick_signals = refl; timer_signals = refl; processing = refl; lock = refl } in
     let first = pick-below (start_state image) (valid-start_machine program_serves Direct image list h words l).kernel in
@@ -119,19 +148,21 @@ kept-loaded image list a h words l e kinds size =
         work = none_fit a.config a.kernel.hand none;
         size = size ∙ ap (λ (m : Machine). m.config.defer_size) (sym e);
         vectors = vectors-start image list a.frames h l (ap (λ (m : Machine). m.frames) e) (ap (λ (m : Machine). m.interrupts) e);
+        looks = rw (kinds, looks, length-map image.objects (λ (o : ObjDef). o.kind)) (looks-shown image list.looks h.objects_room l.looks);
       };
       current = current;
       within = omega (arith, t);
       few = omega (arith, few, s);
+      to_come = rw (s, looks) (all-to_come list.looks);
     }
 
 -- it is loaded part by part
 module _ (image : ImageRecord) (list : ListRecord) (a : Parts) (kernel : a.kernel ≡ start_of image) (ram : a.ram ≡ filled image.ram) (current : a.current.0 ≡ pick a.kernel.state) (frames : a.frames ≡ record { frames = []; waiting = numbered 0 (interrupts_of image list) })
-    (later : a.later ≡ record { posts = []; size = image.config.defer_size }) (kinds : a.kinds ≡ kind_table image) (code : a.program ≡ image.code) (config : a.config ≡ image.config) (no_look : list.looks ≡ []) (begun : a.begun ≡ false) (s : a.s ≡ 0) (t : a.t ≡ 0) where
+    (later : a.later ≡ record { posts = []; size = image.config.defer_size }) (kinds : a.kinds ≡ kind_table image) (code : a.program ≡ image.code) (config : a.config ≡ image.config) (looks : a.looks ≡ list.looks) (begun : a.begun ≡ false) (s : a.s ≡ 0) (t : a.t ≡ 0) where
   pub loaded : machine_of a ≡ start image list
   loaded =
       let is : interrupts a.frames ≡ interrupts_of image list = interrupts-new (interrupts_of image list) a.frames frames in
-      rw (is, current, kernel, ram, frames, later, code, config, no_look, begun, s, t) refl
+      rw (is, current, kernel, ram, frames, later, looks, code, config, begun, s, t) refl
 
   pub loaded-kept : IsValidImage image → HasWords image → IsValidList image list → IsKept a
   loaded-kept h words l = kept-loaded image list a h words l loaded kinds (ap (λ (q : QueueRecord). q.size) later)

@@ -1,91 +1,201 @@
 -- What the services leave as it was: the signals of the internal tasks, and the lock.
-use Rattle.std.proofs.Common.{◌≡◌, ℕ, zero, suc, List, [], ◌∷◌, refl, Bool, true, false, Option, Some, None, ap, ◌∙◌}
+use Rattle.std.proofs.Common.{◌≡◌, ℕ, zero, suc, List, [], ◌∷◌, refl, Bool, true, false, Option, Some, None, ap, sym, ◌∙◌, length}
 use Rattle.std.proofs.lemmas.Bool.{false≢true}
 use Rattle.std.proofs.Math.Seq.{map-set_same}
 use Rattle.std.specs.Prelude.{map, slice_index_or, if◌then◌else◌, ◌==◌, ◌-◌, ◌+◌, ◌^◌}
 use Rattle.kern_base.specs.declared.services.Service.{Service}
-use Rattle.kern_base.specs.declared.services.Service.TheVariants.{SemPost, SemPend, FlagPend}
+use Rattle.kern_base.specs.declared.services.Service.TheVariants.{SemPost, QPost, FlagPost, TaskSemPost, TaskQPost, SemPend, QPend, FlagPend, TaskSemPend, TaskQPend}
 use Rattle.kern_base.specs.declared.requests.Request.{Request}
 use Rattle.kern_base.specs.declared.errors.OsErr.{OsErr}
 use Rattle.kern_base.specs.declared.errors.OsErr.TheVariants.{NoError, SemOverflow, SchedLocked, CallUnknown}
-use Rattle.kern_base.specs.declared.outcomes.Waiting.TheVariants.{Obj}
+use Rattle.kern_base.specs.declared.outcomes.Waiting.{Waiting}
+use Rattle.kern_base.specs.declared.outcomes.Waiting.TheVariants.{No, Delay, Obj, TaskSem, TaskQ, Multi, Signal}
 use Rattle.kern_base.specs.declared.outcomes.Finished.{Finished}
 use Rattle.kern_model.specs.Call.{Call}
 use Rattle.kern_base.specs.Tables.{KindTable}
-use Rattle.kern_model.specs.State.{Kernel, Task, Object, no_object, kind_of, kinds_of, Content, Count, Messages, Bits, Held, Timed, list_at, task_at, object_at, with_content}
-use Rattle.kern_model.specs.Effect.{Effect, refused, done, fine, wakes, wakes_all, posted_result, chosen, waits_unless, blocks_on, waits_for}
-use Rattle.kern_model.specs.Checks.{argument, call_error}
+use Rattle.kern_model.specs.State.{Kernel, Task, Object, no_object, kind_of, kinds_of, Content, Count, Messages, Bits, Held, Timed, list_at, task_at, object_at, with_content, with_task}
+use Rattle.kern_model.specs.Effect.{Effect, Wait, refused, done, fine, message, wakes, wakes_all, posted_result, result_of, chosen, waits_unless, blocks_on, waits_for}
+use Rattle.kern_model.specs.Checks.{argument, call_error, named_task}
+use Rattle.kern_laws.proofs.ObjectKinds.Calls.{kinds-effect}
+use Rattle.kern_model.specs.FlagBits.{bits_after, ready_bits}
+use Rattle.kern_model.specs.Flags.{flag_pend, flag_pend_on, flag_post, flag_wakes, flag_wakes_all}
+use Rattle.kern_model.specs.Options.{does_not_wait, flags_do_not_wait, hands_to_all, stores_first}
+use Rattle.kern_model.specs.Queues.{q_pend, q_post, q_post_to, store_error, store_in, stored}
+use Rattle.kern_model.specs.TaskObjects.{task_q_pend_on, task_q_post_to, task_sem_pend_on, task_sem_post_to, task_store}
 use Rattle.kern_model.specs.Semaphores.{sem_post_to, sem_post, sem_pend}
-use Rattle.kern_model.specs.Services.{effect, program_serves, after_checks, perform}
+use Rattle.kern_model.specs.Served.{program_serves}
+use Rattle.kern_model.specs.Services.{effect, after_checks, perform}
 use Rattle.kern_model.specs.Finish.{finished, finished_with, consumed_content, consumed_object, consumed_in, flags_consumed}
 use Rattle.kern_model.specs.Stop.{stopped}
 use Rattle.machine_model.proofs.CountLaws.{choice}
 use Rattle.machine_core.specs.Valid.{IsStill}
 
--- the signals, the work of the timer task, the lock and the kinds of objects are the same
+-- the signals, the work of the timer task and the lock are the same
 record SameBehind (k j : Kernel) : Type 0 where
   tick_signals : j.tick_signals ≡ k.tick_signals
   timer_signals : j.timer_signals ≡ k.timer_signals
   processing : j.processing ≡ k.processing
   in_callback : j.in_callback ≡ k.in_callback
   lock : j.lock ≡ k.lock
-  kinds : kinds_of j ≡ kinds_of k
 
 abbrev Keeps : Kernel → Effect → Type 0
 Keeps k e = SameBehind k e.kernel
 
 same : (k : Kernel) → SameBehind k k
-same k = record { tick_signals = refl; timer_signals = refl; processing = refl; in_callback = refl; lock = refl; kinds = refl }
+same k = record { tick_signals = refl; timer_signals = refl; processing = refl; in_callback = refl; lock = refl }
+
+-- a change of the tasks, objects, lists, matches and free messages
+keeps-fields : (k j : Kernel) → record k { tasks = j.tasks; objects = j.objects; ready = j.ready; pend = j.pend; matches = j.matches; free = j.free } ≡ j → SameBehind k j
+keeps-fields k j e =
+    record {
+      tick_signals = ap (λ (i : Kernel). i.tick_signals) (sym e);
+      timer_signals = ap (λ (i : Kernel). i.timer_signals) (sym e);
+      processing = ap (λ (i : Kernel). i.processing) (sym e);
+      in_callback = ap (λ (i : Kernel). i.in_callback) (sym e);
+      lock = ap (λ (i : Kernel). i.lock) (sym e);
+    }
 
 keeps-wakes_all : (f : Task → Finished) (h : ℕ) (xs : List ℕ) (k j : Kernel) → SameBehind k j → SameBehind k (wakes_all f h xs j)
 keeps-wakes_all f h [] k j s = s
 keeps-wakes_all f h (x ∷ xs) k j s =
     keeps-wakes_all f h xs k (wakes (f (task_at j x)) h x j)
-    (record { tick_signals = s.tick_signals; timer_signals = s.timer_signals; processing = s.processing; in_callback = s.in_callback; lock = s.lock; kinds = s.kinds })
-
--- another content of the same kind
-keeps-content : (k : Kernel) (o : ℕ) (c : Content) → kind_of c ≡ kind_of (object_at k o).content → SameBehind k (with_content k o c)
-keeps-content k o c h =
-    let b : Object = record (object_at k o) { content = c } in
-    record {
-      tick_signals = refl;
-      timer_signals = refl;
-      processing = refl;
-      in_callback = refl;
-      lock = refl;
-      kinds = ap (λ kinds. record { objects = kinds; tasks = k.settings.tasks }) (map-set_same (λ (a : Object). kind_of a.content) k.objects o b no_object h);
-    }
+    (record { tick_signals = s.tick_signals; timer_signals = s.timer_signals; processing = s.processing; in_callback = s.in_callback; lock = s.lock })
 
 keeps-tail : (k : Kernel) (b : Bool) (e : Effect) → Keeps k e → Keeps k (waits_unless k b e)
 keeps-tail k true e s = same k
 keeps-tail k false e s = choice (Keeps k) (k.lock == 0) e (refused k SchedLocked) s (same k)
 
-keeps-sem_post_to : (xs : List ℕ) (n o opt h : ℕ) (k : Kernel) → kind_of (Count n) ≡ kind_of (object_at k o).content → Keeps k (sem_post_to xs n o opt h k)
-keeps-sem_post_to [] n o opt h k e =
-    choice (Keeps k) (n == 2 ^ 32 - 1) (refused k SemOverflow) (done (with_content k o (Count (n + 1))) (fine (n + 1))) (same k) (keeps-content k o (Count (n + 1)) e)
-keeps-sem_post_to (x ∷ xs) n o opt h k e = keeps-wakes_all (posted_result o (fine 0)) h (chosen (opt == 2) (x ∷ xs)) k k (same k)
+-- a semaphore
 
-keeps-sem_post : (c : Content) (r : Request) (h : ℕ) (k : Kernel) → c ≡ (object_at k (argument r 0)).content → Keeps k (sem_post c r h k)
-keeps-sem_post (Count n) r h k e = keeps-sem_post_to (list_at k.pend (argument r 0)) n (argument r 0) (argument r 1) h k (ap kind_of e)
-keeps-sem_post (Messages limit ms) r h k e = same k
-keeps-sem_post (Bits bits) r h k e = same k
-keeps-sem_post (Held owner nesting) r h k e = same k
-keeps-sem_post (Timed t) r h k e = same k
+keeps-sem_post_to : (xs : List ℕ) (n o opt h : ℕ) (k : Kernel) → Keeps k (sem_post_to xs n o opt h k)
+keeps-sem_post_to [] n o opt h k =
+    choice (Keeps k) (n == 2 ^ 32 - 1) (refused k SemOverflow) (done (with_content k o (Count (n + 1))) (fine (n + 1))) (same k) (keeps-fields k (with_content k o (Count (n + 1))) refl)
+keeps-sem_post_to (x ∷ xs) n o opt h k = keeps-wakes_all (posted_result o (fine 0)) h (chosen (opt == 2) (x ∷ xs)) k k (same k)
 
-keeps-sem_pend : (c : Content) (r : Request) (x : ℕ) (k : Kernel) → c ≡ (object_at k (argument r 0)).content → Keeps k (sem_pend c r x k)
-keeps-sem_pend (Count zero) r x k e =
-    let w = waits_for (Obj SemPend) (argument r 0 ∷ []) (argument r 1) in
-    keeps-tail k (argument r 2 == 1) (blocks_on k x w)
-    (record { tick_signals = refl; timer_signals = refl; processing = refl; in_callback = refl; lock = refl; kinds = refl })
-keeps-sem_pend (Count (suc n)) r x k e = keeps-content k (argument r 0) (Count n) (ap kind_of e)
-keeps-sem_pend (Messages limit ms) r x k e = same k
-keeps-sem_pend (Bits bits) r x k e = same k
-keeps-sem_pend (Held owner nesting) r x k e = same k
-keeps-sem_pend (Timed t) r x k e = same k
+keeps-sem_post : (c : Content) (r : Request) (h : ℕ) (k : Kernel) → Keeps k (sem_post c r h k)
+keeps-sem_post (Count n) r h k = keeps-sem_post_to (list_at k.pend (argument r 0)) n (argument r 0) (argument r 1) h k
+keeps-sem_post (Messages limit ms) r h k = same k
+keeps-sem_post (Bits bits) r h k = same k
+keeps-sem_post (Held owner nesting) r h k = same k
+keeps-sem_post (Timed t) r h k = same k
+
+keeps-sem_pend : (c : Content) (r : Request) (x : ℕ) (k : Kernel) → Keeps k (sem_pend c r x k)
+keeps-sem_pend (Count zero) r x k =
+    let e = blocks_on k x (waits_for (Obj SemPend) (argument r 0 ∷ []) (argument r 1)) in
+    keeps-tail k (argument r 2 == 1) e (keeps-fields k e.kernel refl)
+keeps-sem_pend (Count (suc n)) r x k = keeps-fields k (with_content k (argument r 0) (Count n)) refl
+keeps-sem_pend (Messages limit ms) r x k = same k
+keeps-sem_pend (Bits bits) r x k = same k
+keeps-sem_pend (Held owner nesting) r x k = same k
+keeps-sem_pend (Timed t) r x k = same k
+
+-- a queue
+
+keeps-store_in : (e : Option OsErr) (o limit : ℕ) (ms : List (ℕ × ℕ)) (k : Kernel) → Keeps k (store_in e o limit ms k)
+keeps-store_in (Some err) o limit ms k = same k
+keeps-store_in None o limit ms k = keeps-fields k (store_in None o limit ms k).kernel refl
+
+keeps-q_post_to : (xs : List ℕ) (limit : ℕ) (ms : List (ℕ × ℕ)) (r : Request) (h : ℕ) (k : Kernel) → Keeps k (q_post_to xs limit ms r h k)
+keeps-q_post_to [] limit ms r h k =
+    keeps-store_in (store_error (length ms) limit k.free) (argument r 0) limit (stored (stores_first (argument r 3)) (argument r 1, argument r 2) ms) k
+keeps-q_post_to (x ∷ xs) limit ms r h k =
+    keeps-wakes_all (posted_result (argument r 0) (message (argument r 1) (argument r 2))) h (chosen (hands_to_all (argument r 3)) (x ∷ xs)) k k (same k)
+
+keeps-q_post : (c : Content) (r : Request) (h : ℕ) (k : Kernel) → Keeps k (q_post c r h k)
+keeps-q_post (Messages limit ms) r h k = keeps-q_post_to (list_at k.pend (argument r 0)) limit ms r h k
+keeps-q_post (Count n) r h k = same k
+keeps-q_post (Bits bits) r h k = same k
+keeps-q_post (Held owner nesting) r h k = same k
+keeps-q_post (Timed t) r h k = same k
+
+keeps-q_pend : (c : Content) (r : Request) (x : ℕ) (k : Kernel) → Keeps k (q_pend c r x k)
+keeps-q_pend (Messages limit []) r x k =
+    let e = blocks_on k x (waits_for (Obj QPend) (argument r 0 ∷ []) (argument r 1)) in
+    keeps-tail k (does_not_wait (argument r 2)) e (keeps-fields k e.kernel refl)
+keeps-q_pend (Messages limit (m ∷ ms)) r x k = keeps-fields k (q_pend (Messages limit (m ∷ ms)) r x k).kernel refl
+keeps-q_pend (Count n) r x k = same k
+keeps-q_pend (Bits bits) r x k = same k
+keeps-q_pend (Held owner nesting) r x k = same k
+keeps-q_pend (Timed t) r x k = same k
+
+-- event flags
+
+keeps-look : (ready : Option ℕ) (h x : ℕ) (k j : Kernel) → SameBehind k j → SameBehind k (flag_wakes ready h x j)
+keeps-look None h x k j s = s
+keeps-look (Some ready) h x k j s = record { tick_signals = s.tick_signals; timer_signals = s.timer_signals; processing = s.processing; in_callback = s.in_callback; lock = s.lock }
+
+keeps-looks : (bits h : ℕ) (xs : List ℕ) (k j : Kernel) → SameBehind k j → SameBehind k (flag_wakes_all bits h xs j)
+keeps-looks bits h [] k j s = s
+keeps-looks bits h (x ∷ xs) k j s =
+    let ready = ready_bits bits (task_at j x).mask (task_at j x).opt in
+    keeps-looks bits h xs k (flag_wakes ready h x j) (keeps-look ready h x k j s)
+
+keeps-flag_post : (c : Content) (r : Request) (h : ℕ) (k : Kernel) → Keeps k (flag_post c r h k)
+keeps-flag_post (Bits bits) r h k =
+    let new = bits_after bits (argument r 1) (argument r 2) in
+    let j = with_content k (argument r 0) (Bits new) in
+    keeps-looks new h (list_at k.pend (argument r 0)) k j (keeps-fields k j refl)
+keeps-flag_post (Count n) r h k = same k
+keeps-flag_post (Messages limit ms) r h k = same k
+keeps-flag_post (Held owner nesting) r h k = same k
+keeps-flag_post (Timed t) r h k = same k
+
+keeps-flag_pend_on : (ready : Option ℕ) (bits : ℕ) (r : Request) (x : ℕ) (k : Kernel) → Keeps k (flag_pend_on ready bits r x k)
+keeps-flag_pend_on None bits r x k =
+    let w : Wait = record { waiting = Obj FlagPend; objects = argument r 0 ∷ []; mask = argument r 1; opt = argument r 3; table = 0; timeout = argument r 2 } in
+    keeps-tail k (flags_do_not_wait (argument r 3)) (blocks_on k x w) (keeps-fields k (blocks_on k x w).kernel refl)
+keeps-flag_pend_on (Some ready) bits r x k = keeps-fields k (flag_pend_on (Some ready) bits r x k).kernel refl
+
+keeps-flag_pend : (c : Content) (r : Request) (x : ℕ) (k : Kernel) → Keeps k (flag_pend c r x k)
+keeps-flag_pend (Bits bits) r x k = keeps-flag_pend_on (ready_bits bits (argument r 1) (argument r 3)) bits r x k
+keeps-flag_pend (Count n) r x k = same k
+keeps-flag_pend (Messages limit ms) r x k = same k
+keeps-flag_pend (Held owner nesting) r x k = same k
+keeps-flag_pend (Timed t) r x k = same k
+
+-- a task's own semaphore and queue
+
+keeps-task_sem_post_to : (w : Waiting) (y h : ℕ) (k : Kernel) → Keeps k (task_sem_post_to w y h k)
+keeps-task_sem_post_to TaskSem y h k = keeps-wakes_all (result_of (fine 0)) h (y ∷ []) k k (same k)
+keeps-task_sem_post_to _ y h k =
+    let e = done (with_task k y (λ t. record t { count = (task_at k y).count + 1 })) (fine ((task_at k y).count + 1)) in
+    choice (Keeps k) ((task_at k y).count == 2 ^ 32 - 1) (refused k SemOverflow) e (same k) (keeps-fields k e.kernel refl)
+
+keeps-task_store : (e : Option OsErr) (y : ℕ) (ms : List (ℕ × ℕ)) (k : Kernel) → Keeps k (task_store e y ms k)
+keeps-task_store (Some err) y ms k = same k
+keeps-task_store None y ms k = keeps-fields k (task_store None y ms k).kernel refl
+
+keeps-task_q_post_to : (w : Waiting) (r : Request) (y h : ℕ) (k : Kernel) → Keeps k (task_q_post_to w r y h k)
+keeps-task_q_post_to TaskQ r y h k = keeps-wakes_all (result_of (message (argument r 1) (argument r 2))) h (y ∷ []) k k (same k)
+keeps-task_q_post_to _ r y h k =
+    let t = task_at k y in
+    keeps-task_store (store_error (length t.messages) t.limit k.free) y (stored (stores_first (argument r 3)) (argument r 1, argument r 2) t.messages) k
+
+keeps-task_sem_pend_on : (n : ℕ) (r : Request) (x : ℕ) (k : Kernel) → Keeps k (task_sem_pend_on n r x k)
+keeps-task_sem_pend_on zero r x k =
+    let e = blocks_on k x (waits_for TaskSem [] (argument r 0)) in
+    keeps-tail k (does_not_wait (argument r 1)) e (keeps-fields k e.kernel refl)
+keeps-task_sem_pend_on (suc n) r x k = keeps-fields k (task_sem_pend_on (suc n) r x k).kernel refl
+
+keeps-task_q_pend_on : (ms : List (ℕ × ℕ)) (r : Request) (x : ℕ) (k : Kernel) → Keeps k (task_q_pend_on ms r x k)
+keeps-task_q_pend_on [] r x k =
+    let e = blocks_on k x (waits_for TaskQ [] (argument r 0)) in
+    keeps-tail k (does_not_wait (argument r 1)) e (keeps-fields k e.kernel refl)
+keeps-task_q_pend_on (m ∷ ms) r x k = keeps-fields k (task_q_pend_on (m ∷ ms) r x k).kernel refl
+
+-- each of them
 
 keeps-perform : (s : Service) (call : Call) (k : Kernel) → program_serves s ≡ true → Keeps k (perform s call k)
-keeps-perform SemPost call k e = keeps-sem_post (object_at k (argument call.request 0)).content call.request call.compared k refl
-keeps-perform SemPend call k e = keeps-sem_pend (object_at k (argument call.request 0)).content call.request call.caller k refl
+keeps-perform SemPost call k e = keeps-sem_post (object_at k (argument call.request 0)).content call.request call.compared k
+keeps-perform QPost call k e = keeps-q_post (object_at k (argument call.request 0)).content call.request call.compared k
+keeps-perform FlagPost call k e = keeps-flag_post (object_at k (argument call.request 0)).content call.request call.compared k
+keeps-perform TaskSemPost call k e = let y = named_task call.request call.caller in keeps-task_sem_post_to (task_at k y).waiting y call.compared k
+keeps-perform TaskQPost call k e = let y = named_task call.request call.caller in keeps-task_q_post_to (task_at k y).waiting call.request y call.compared k
+keeps-perform SemPend call k e = keeps-sem_pend (object_at k (argument call.request 0)).content call.request call.caller k
+keeps-perform QPend call k e = keeps-q_pend (object_at k (argument call.request 0)).content call.request call.caller k
+keeps-perform FlagPend call k e = keeps-flag_pend (object_at k (argument call.request 0)).content call.request call.caller k
+keeps-perform TaskSemPend call k e = keeps-task_sem_pend_on (task_at k call.caller).count call.request call.caller k
+keeps-perform TaskQPend call k e = keeps-task_q_pend_on (task_at k call.caller).messages call.request call.caller k
 keeps-perform _ call k e = absurd (false≢true e)
 
 keeps-checked : (o : Option OsErr) (call : Call) (k : Kernel) → program_serves call.request.service ≡ true → Keeps k (after_checks o call k)
@@ -132,8 +242,11 @@ same_behind-finished_with (Some f) x k =
       processing = refl;
       in_callback = refl;
       lock = refl;
-      kinds = ap (λ kinds. record { objects = kinds; tasks = k.settings.tasks }) (kinds-consumed f.service f.answer.err (task_at k x) f.answer.value k.objects);
     }
+
+kinds-finished_with : (o : Option Finished) (x : ℕ) (k : Kernel) → kinds_of (finished_with o x k) ≡ kinds_of k
+kinds-finished_with None x k = refl
+kinds-finished_with (Some f) x k = ap (λ kinds. record { objects = kinds; tasks = k.settings.tasks }) (kinds-consumed f.service f.answer.err (task_at k x) f.answer.value k.objects)
 
 same_behind-finished : (x : ℕ) (k : Kernel) → SameBehind k (finished x k)
 same_behind-finished x k = same_behind-finished_with (task_at k x).answered x k
@@ -145,8 +258,8 @@ pub record IsSteady (table : KindTable) (k : Kernel) : Type 0 where
   pub still : IsStill k
   pub kinds : kinds_of k ≡ table
 
-steady-same : (kinds : KindTable) (k j : Kernel) → SameBehind k j → IsSteady kinds k → IsSteady kinds j
-steady-same kinds k j h s =
+steady-same : (kinds : KindTable) (k j : Kernel) → SameBehind k j → kinds_of j ≡ kinds_of k → IsSteady kinds k → IsSteady kinds j
+steady-same kinds k j h e s =
     record {
       still = record {
         tick_signals = h.tick_signals ∙ s.still.tick_signals;
@@ -154,14 +267,14 @@ steady-same kinds k j h s =
         processing = h.processing ∙ s.still.processing;
         lock = h.lock ∙ s.still.lock;
       };
-      kinds = h.kinds ∙ s.kinds;
+      kinds = e ∙ s.kinds;
     }
 
 pub steady-effect : (kinds : KindTable) (call : Call) (k : Kernel) → IsSteady kinds k → IsSteady kinds (effect program_serves call k).kernel
-steady-effect kinds call k s = steady-same kinds k (effect program_serves call k).kernel (same_behind-effect call k) s
+steady-effect kinds call k s = steady-same kinds k (effect program_serves call k).kernel (same_behind-effect call k) (kinds-effect program_serves call k) s
 
 pub steady-finished : (kinds : KindTable) (x : ℕ) (k : Kernel) → IsSteady kinds k → IsSteady kinds (finished x k)
-steady-finished kinds x k s = steady-same kinds k (finished x k) (same_behind-finished x k) s
+steady-finished kinds x k s = steady-same kinds k (finished x k) (same_behind-finished x k) (kinds-finished_with (task_at k x).answered x k) s
 
 pub steady-stopped : (kinds : KindTable) (x : ℕ) (k : Kernel) → IsSteady kinds k → IsSteady kinds (stopped x k)
 steady-stopped kinds x k s = record {

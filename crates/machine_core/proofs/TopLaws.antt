@@ -1,18 +1,19 @@
 -- The top frame, where one stands.
-use Rattle.std.specs.Prelude.{drop, option_map, slice_get, IfSome, ◌-◌, ◌^◌}
-use Rattle.std.proofs.Common.{◌≡◌, ◌<◌, ◌+◌, ◌∙◌, ℕ, false, List, [], ◌∷◌, Some, refl, ap}
+use Rattle.std.specs.Prelude.{drop, if◌then◌else◌, option_map, slice_get, IfSome, ◌-◌, ◌^◌}
+use Rattle.std.proofs.Common.{◌≡◌, ◌<◌, ◌+◌, ◌∙◌, ℕ, Bool, true, false, List, [], ◌∷◌, Some, refl, ap}
 use Rattle.kern_base.specs.declared.services.Service.{Service}
-use Rattle.kern_base.specs.declared.services.Service.TheVariants.{SemPost, SemPend}
+use Rattle.kern_base.specs.declared.errors.OsErr.TheVariants.{CallUnknown}
+use Rattle.kern_model.specs.Served.{program_serves}
 use Rattle.kern_base.specs.declared.outcomes.Answer.{Answer}
 use Rattle.kern_base.specs.Tables.{KindTable}
-use Rattle.kern_base.specs.Services.{service_of}
+use Rattle.kern_base.specs.Services.{interrupt_error, is_post, service_of}
 use Rattle.rv32_exec.specs.Registers.{Registers, read}
 use Rattle.rv32_exec.specs.Exec.{exec}
 use Rattle.machine_model.specs.Frames.{FrameRecord, Interrupt, none_stands}
 use Rattle.machine_model.specs.Interrupts.{argument_words, ran}
 use Rattle.isr_nesting.specs.Nest.{Nest}
 use Rattle.isr_nesting.specs.FrameView.{with_top}
-use Rattle.machine_core.specs.FrameCalls.{FrameCall, called_by, top_of, top_called}
+use Rattle.machine_core.specs.FrameCalls.{FrameCall, called_by, post_call, refused_call, top_of, top_called}
 
 pub stands-top : (fs : List FrameRecord) → none_stands fs ≡ false → fs ≡ top_of fs ∷ drop 1 fs
 stands-top [] s = cc
@@ -63,9 +64,16 @@ module _ (f : FrameRecord) (regs : Registers) (below : List FrameRecord) (waitin
   -- or it calls
   module _ {X : Type 0} (way : Service → List ℕ → X → Answer × X) (kinds : KindTable) (x : X) where
     called-same : (s : Service) (args : List ℕ) → called_by way kinds s args (record f { registers = regs }) regs x ≡ called_by way kinds s args f regs x
-    called-same SemPost args = refl
-    called-same SemPend args = refl
-    called-same _ args = refl
+    called-same s args = by (program_serves s) (is_post s)
+      where
+        g : FrameRecord
+        g = record f { registers = regs }
+
+        by : (b c : Bool) → (if b then (if c then post_call way kinds s args g regs x else refused_call way kinds s (interrupt_error s) g regs x) else refused_call way kinds s CallUnknown g regs x)
+            ≡ (if b then (if c then post_call way kinds s args f regs x else refused_call way kinds s (interrupt_error s) f regs x) else refused_call way kinds s CallUnknown f regs x)
+        by true true = refl
+        by true false = refl
+        by false c = refl
 
     pub called-is : top_called way kinds n.frames x ≡ called_by way kinds (service_of (read regs 17)) (argument_words regs) f regs x
     called-is = ap (λ (m : Nest). top_called way kinds m.frames x) ran_is ∙ called-same (service_of (read regs 17)) (argument_words regs)

@@ -1,15 +1,15 @@
--- What a frame of interrupt code does, wherever its posts go, where semaphores alone are served.
+-- What a frame of interrupt code does, wherever its posts go.
 use Rattle.std.specs.Prelude.{ℕ, ◌+◌, Bool, false, ◌&&◌, List, [], ◌∷◌, drop, Option, Some, None, if◌then◌else◌, ◌==◌}
 use Rattle.kern_base.specs.Numbers.{leave}
 use Rattle.kern_base.specs.Tables.{KindTable}
 use Rattle.kern_base.specs.Checks.{static_error}
-use Rattle.kern_base.specs.Services.{service_of}
+use Rattle.kern_base.specs.Services.{argument_count, interrupt_error, is_post, service_of}
 use Rattle.kern_base.specs.declared.services.Service.{Service}
-use Rattle.kern_base.specs.declared.services.Service.TheVariants.{SemPost, SemPend}
 use Rattle.kern_base.specs.declared.outcomes.Answer.{Answer}
 use Rattle.kern_base.specs.declared.errors.OsErr.{OsErr}
-use Rattle.kern_base.specs.declared.errors.OsErr.TheVariants.{PendIsr, CallUnknown}
+use Rattle.kern_base.specs.declared.errors.OsErr.TheVariants.{CallUnknown}
 use Rattle.kern_model.specs.State.{Kernel}
+use Rattle.kern_model.specs.Served.{program_serves}
 use Rattle.kern_model.specs.Effect.{answer}
 use Rattle.rv32_exec.specs.Registers.{Registers, no_registers, read}
 use Rattle.rv32_exec.specs.Exec.{Execution, exec}
@@ -63,20 +63,24 @@ module _ {X : Type 0} (way : Service → List ℕ → X → Answer × X) where
   checked_to None s args x = way s args x
 
   module _ (kinds : KindTable) where
-    -- a post to a semaphore
-    abbrev pub post_call : List ℕ → FrameRecord → Registers → X → FrameCall X
-    post_call args f regs x =
-        let p = checked_to (static_error SemPost args kinds false) SemPost args x in
-        record { what = Post f.vector SemPost (arguments SemPost args) 2 p.0.err p.0.value; frame = answered_frame f regs p.0 post_marks; after = p.1 }
+    -- a post
+    abbrev pub post_call : Service → List ℕ → FrameRecord → Registers → X → FrameCall X
+    post_call s args f regs x =
+        let p = checked_to (static_error s args kinds false) s args x in
+        record {
+          what = Post f.vector s (arguments s args) (argument_count s) p.0.err p.0.value;
+          frame = answered_frame f regs p.0 post_marks;
+          after = p.1;
+        }
 
     abbrev pub refused_call : Service → OsErr → FrameRecord → Registers → X → FrameCall X
     refused_call s err f regs x = record { what = ICall f.vector s err; frame = refused_frame err f regs; after = x }
 
-    -- the frame calls this service with these arguments
+    -- the frame calls this service with these arguments: it may post, and one that is not served counts as an unknown number
     abbrev pub called_by : Service → List ℕ → FrameRecord → Registers → X → FrameCall X
-    called_by SemPost args f regs x = post_call args f regs x
-    called_by SemPend args f regs x = refused_call SemPend PendIsr f regs x
-    called_by s args f regs x = refused_call s CallUnknown f regs x
+    called_by s args f regs x =
+        if program_serves s then (if is_post s then post_call s args f regs x else refused_call s (interrupt_error s) f regs x)
+        else refused_call s CallUnknown f regs x
 
     -- the top frame calls this service with these arguments
     abbrev pub top_calls : Service → List ℕ → List FrameRecord → X → FrameCall X

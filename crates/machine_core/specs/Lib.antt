@@ -1,6 +1,7 @@
 pub mod MethodMachine
 pub mod Valid
 pub mod AnswerView
+pub mod LookView
 pub mod MachineView
 pub mod Posts
 pub mod FrameCalls

@@ -1,20 +1,23 @@
 -- What the machine's fields mean, and what is always true of them.
-use Rattle.std.specs.Prelude.{ℕ, List, ◌≡◌, ◌<◌, ◌≤◌, ◌+◌, ◌==◌, Bool, true, false, [], All, Option, Some, None}
+use Rattle.std.specs.Prelude.{ℕ, List, ◌≡◌, ◌<◌, ◌≤◌, ◌+◌, ◌==◌, Bool, true, false, All, Option, Some, None, length}
 use Rattle.app_image.specs.declared.settings.Config.{Config}
-use Rattle.kern_model.specs.State.{Kernel, kinds_of}
-use Rattle.kern_model.specs.Services.{program_serves, post_request}
+use Rattle.kern_model.specs.State.{kinds_of}
+use Rattle.kern_model.specs.Served.{program_serves}
+use Rattle.kern_model.specs.Services.{post_request}
 use Rattle.kernel_calls.specs.Works.{WorkRecord}
 use Rattle.kernel_calls.specs.KernelRecord.{KernelRecord}
 use Rattle.kern_base.specs.Tables.{KindTable}
 use Rattle.kern_base.specs.declared.kinds.Method.{Method}
 use Rattle.kern_base.specs.declared.numbers.TaskId.{TaskId}
 use Rattle.deferred_queue.specs.QueueRecord.{QueueRecord}
+use Rattle.inject_list.specs.declared.lists.Look.{Look}
 use Rattle.machine_model.specs.Queue.{Queued}
 use Rattle.machine_model.specs.Machine.{Machine, WholeStep, Work, CallOf, TakeOf, handler_compares}
 use Rattle.isr_nesting.specs.Nest.{Nest, interrupts}
 use Rattle.machine_model.specs.Bound.{events_left}
 use Rattle.machine_laws.specs.Valid.{IsValidMachine}
 use Rattle.machine_core.specs.MethodMachine.{MethodMachine}
+use Rattle.machine_core.specs.LookView.{IsShown, IsToCome}
 use Rattle.machine_core.specs.Valid.{most_task_steps, most_events, IsStill}
 
 -- the fields of a machine
@@ -28,13 +31,14 @@ pub record Parts : Type 0 where
   pub current : TaskId
   pub frames : Nest
   pub later : QueueRecord
+  pub looks : List Look
   pub begun : Bool
   pub s : ℕ
   pub t : ℕ
 
-abbrev pub parts : Method → KernelRecord → KindTable → List ℕ → List ℕ → Config → TaskId → Nest → QueueRecord → Bool → ℕ → ℕ → Parts
-parts method kernel kinds ram program config current frames later begun s t =
-    record { method = method; kernel = kernel; kinds = kinds; ram = ram; program = program; config = config; current = current; frames = frames; later = later; begun = begun; s = s; t = t }
+abbrev pub parts : Method → KernelRecord → KindTable → List ℕ → List ℕ → Config → TaskId → Nest → QueueRecord → List Look → Bool → ℕ → ℕ → Parts
+parts method kernel kinds ram program config current frames later looks begun s t =
+    record { method = method; kernel = kernel; kinds = kinds; ram = ram; program = program; config = config; current = current; frames = frames; later = later; looks = looks; begun = begun; s = s; t = t }
 
 -- the post that a take performs
 abbrev pub queued_in : WorkRecord → Queued
@@ -54,7 +58,7 @@ abbrev pub hand_of : Option WorkRecord → Option WholeStep
 hand_of None = None
 hand_of (Some w) = Some (step_of w)
 
--- the machine that the fields are: no look is to come
+-- the machine that the fields are
 abbrev pub machine_of : Parts → Machine
 machine_of a =
     record {
@@ -66,7 +70,7 @@ machine_of a =
       later = a.later.posts;
       in_hand = hand_of a.kernel.hand;
       interrupts = interrupts a.frames;
-      looks = [];
+      looks = a.looks;
       begun = a.begun;
       s = a.s;
       t = a.t;
@@ -94,19 +98,22 @@ pub record HasVectors (n : Nest) : Type 0 where
   pub waiting : All (λ i. i.vector < 32) (interrupts n)
 
 -- What is true of the fields beside the machine that they are: its kernel is still, its kinds are those of the kernel's
--- objects, the work in hand is a task's call or a take, its queue has the size of the settings, and its vectors are within their numbers.
+-- objects, the work in hand is a task's call or a take, its queue has the size of the settings, its vectors are within their
+-- numbers, and its looks are at lists that there are.
 pub record AreParts (a : Parts) : Type 0 where
   pub still : IsStill a.kernel.state
   pub kinds : kinds_of a.kernel.state ≡ a.kinds
   pub work : IsFitHand a.config a.kernel.hand
   pub size : a.later.size ≡ a.config.defer_size
   pub vectors : HasVectors a.frames
+  pub looks : All (λ l. IsShown (length a.kinds.objects) l.what) a.looks
 
--- What is always true of the fields: the machine is valid by its method, its current task is one of the 64, and its task steps
--- and its events are few.
+-- What is always true of the fields: the machine is valid by its method, its current task is one of the 64, its task steps
+-- and its events are few, and no look to come lies before its raw step.
 pub record IsKept (a : Parts) : Type 0 where
   pub valid : IsValidMachine program_serves a.method (machine_of a)
   pub parts : AreParts a
   pub current : a.current.0 < 64
   pub within : a.t ≤ most_task_steps
   pub few : a.s + events_left most_task_steps (machine_of a) ≤ most_events
+  pub to_come : All (IsToCome a.s) a.looks

@@ -4,9 +4,9 @@ ghost use Rattle.std.specs.Prelude.{◌≡◌, ◌<◌, ◌≤◌, ℕ, true, Li
 ghost use Rattle.kern_model.specs.State.{task_at};
 ghost use Rattle.kern_model.specs.Valid.{has_result};
 ghost use Rattle.kern_model.specs.Finish.{finished};
-ghost use Rattle.kern_model.specs.Services.{program_serves};
+ghost use Rattle.kern_model.specs.Served.{program_serves};
 ghost use Rattle.rv32_exec.specs.Registers.{no_registers, read};
-ghost use Rattle.machine_model.specs.Answers.{with_answer, with_table, returned, size_of, size_or_zero};
+ghost use Rattle.machine_model.specs.Answers.{with_answer, with_table, returned, size_or_zero};
 ghost use Rattle.machine_model.specs.Acts.{request_of, called};
 ghost use Rattle.machine_core.specs.AnswerView.{answered_kernel, finished_kernel, finished_line};
 
@@ -53,16 +53,6 @@ pub(crate) fn call_line(task: TaskId, request: &Request, line: &mut What)
     };
 }
 
-// The size of a message, of the calls that take one message.
-fn size_in(service: Service, answer: Answer) -> Option<u32>
-    ensures { result ≡ size_of service answer }
-{
-    match service {
-        Service::QPend | Service::TaskQPend => Some(answer.extra),
-        _ => None,
-    }
-}
-
 // Writes the answer of a call into the registers of its task, and its event.
 pub(crate) fn answer<L: Links>(
     kernel: &mut Kernel<L>,
@@ -75,14 +65,7 @@ pub(crate) fn answer<L: Links>(
     ensures kernel { kernel.new ≡ answered_kernel kernel.old task.0 service answer }
     ensures line { line.new ≡ returned task.0 service answer [] }
 {
-    let mut regs = kernel.tcb(task).regs;
-    regs.set(A0, answer.err.number());
-    regs.set(A0 + 1, answer.value);
-    let size = size_in(service, answer);
-    if let Some(size) = size {
-        regs.set(A0 + 2, size);
-    }
-    kernel.set_regs(task, regs);
+    let size = kernel.answer(task, service, answer);
     *line = What::Ret {
         task,
         service,

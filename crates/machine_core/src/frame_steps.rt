@@ -4,8 +4,7 @@ ghost use Rattle.std.specs.Prelude.{◌≡◌, ◌==◌, ◌<◌, ◌-◌, ◌^�
 ghost use Rattle.kern_base.specs.Numbers.{leave};
 ghost use Rattle.kern_base.specs.Services.{service_of};
 ghost use Rattle.kern_base.specs.Checks.{static_error};
-ghost use Rattle.kern_base.specs.declared.services.Service.TheVariants.{SemPost};
-ghost use Rattle.kern_model.specs.Services.{program_serves};
+ghost use Rattle.kern_model.specs.Served.{program_serves};
 ghost use Rattle.rv32_exec.specs.Registers.{read};
 ghost use Rattle.machine_model.specs.Frames.{none_stands};
 ghost use Rattle.machine_model.specs.Marks.{marks_after, next_instruction, reads_result};
@@ -13,11 +12,12 @@ ghost use Rattle.isr_nesting.specs.FrameView.{mark_list};
 ghost use Rattle.machine_model.specs.declared.events.What.TheVariants.{ICall, Exit};
 ghost use Rattle.machine_model.specs.Interrupts.{argument_words};
 ghost use Rattle.machine_model.specs.Machine.{Machine};
-ghost use Rattle.machine_core.specs.FrameCalls.{top_of, checked_to, top_calls, top_called, refused_frame, frame_stepped};
+ghost use Rattle.machine_core.specs.FrameCalls.{top_of, checked_to, post_call, top_called, refused_frame, frame_stepped};
 ghost use Rattle.machine_core.specs.IsrStep.{HasParts, IsStepOf};
 
 use crate::posts::Posts;
 use crate::{How, What};
+use call_checks::{interrupt_error, is_post, is_served};
 use deferred_queue::DeferredQueue;
 use isr_nesting::Frames;
 use kern_base::{Answer, Kinds, LEAVE, OsErr, Post, Prio, Service, static_refusal};
@@ -93,13 +93,13 @@ fn checked<P: Posts>(posts: &mut P, kinds: &Kinds, post: Post, prio: Prio) -> An
     }
 }
 
-// The top frame, of this vector, posts to a semaphore.
+// The top frame, of this vector, posts.
 fn post<P: Posts>(
     frames: &mut Frames,
     posts: &mut P,
     kinds: &Kinds,
     vector: u8,
-    args: [u32; 4],
+    post: Post,
     prio: Prio,
     line: &mut What,
 )
@@ -107,20 +107,21 @@ fn post<P: Posts>(
     requires stands { none_stands frames.old.frames ≡ false }
     requires room { (top_of frames.old.frames).used < 2 ^ 32 - 1 }
     requires vector { (top_of frames.old.frames).vector ≡ vector }
-    ensures line { line.new ≡ (top_calls (P.posted prio.0) kinds.now SemPost args frames.old.frames posts.old).what }
-    ensures posts { posts.new ≡ (top_calls (P.posted prio.0) kinds.now SemPost args frames.old.frames posts.old).after }
-    ensures frames { frames.new ≡ record frames.old { frames = (top_calls (P.posted prio.0) kinds.now SemPost args frames.old.frames posts.old).frame ∷ drop 1 frames.old.frames } }
+    ensures line { line.new ≡ (post_call (P.posted prio.0) kinds.now post.service post.args (top_of frames.old.frames) (top_of frames.old.frames).registers posts.old).what }
+    ensures posts { posts.new ≡ (post_call (P.posted prio.0) kinds.now post.service post.args (top_of frames.old.frames) (top_of frames.old.frames).registers posts.old).after }
+    ensures frames { frames.new ≡ record frames.old { frames = (post_call (P.posted prio.0) kinds.now post.service post.args (top_of frames.old.frames) (top_of frames.old.frames).registers posts.old).frame ∷ drop 1 frames.old.frames } }
 {
-    let service = Service::SemPost;
-    let answer = checked(posts, kinds, Post { service, args }, prio);
+    let answer = checked(posts, kinds, post, prio);
     frames.answer_top(answer);
     frames.mark_result();
-    let [object, opt, _, _] = args;
+    let n_args = post.service.args();
+    let mut args = [0; 4];
+    args[..n_args].copy_from_slice(&post.args[..n_args]);
     *line = What::Post {
         vector,
-        service,
-        args: [object, opt, 0, 0],
-        n_args: 2,
+        service: post.service,
+        args,
+        n_args: n_args as u8,
         err: answer.err,
         value: answer.value,
     };
@@ -160,10 +161,20 @@ fn call<P: Posts>(
     ensures frames { frames.new ≡ record frames.old { frames = (top_called (P.posted prio.0) kinds.now frames.old.frames posts.old).frame ∷ drop 1 frames.old.frames } }
 {
     let (service, args) = called(frames);
-    match service {
-        Service::SemPost => post(frames, posts, kinds, vector, args, prio, line),
-        Service::SemPend => refuse(frames, vector, service, OsErr::PendIsr, line),
-        _ => refuse(frames, vector, service, OsErr::CallUnknown, line),
+    if !is_served(service) {
+        refuse(frames, vector, service, OsErr::CallUnknown, line);
+    } else if is_post(service) {
+        post(
+            frames,
+            posts,
+            kinds,
+            vector,
+            Post { service, args },
+            prio,
+            line,
+        );
+    } else {
+        refuse(frames, vector, service, interrupt_error(service), line);
     }
 }
 

@@ -5,6 +5,7 @@
 mod answers;
 mod frame_steps;
 mod interrupts;
+mod looks;
 mod machine;
 mod posts;
 mod takes;

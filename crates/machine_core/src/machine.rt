@@ -1,10 +1,11 @@
 // The machine and its events.
 
-ghost use Rattle.std.specs.Prelude.{◌≡◌, ◌<◌, ◌≤◌, ◌&&◌, not, ℕ, true, [], All, IfOk, length, map};
-ghost use Rattle.kern_model.specs.Services.{program_serves};
+ghost use Rattle.std.specs.Prelude.{◌≡◌, ◌<◌, ◌≤◌, ◌&&◌, not, ℕ, true, false, None, All, IfOk, is_some, length, map};
+ghost use Rattle.kern_model.specs.Served.{program_serves};
 ghost use Rattle.app_image.specs.Image.{kind_table};
 ghost use Rattle.inject_list.specs.Lists.{IsValidList};
 ghost use Rattle.links.specs.Nodes.{AreOwn};
+ghost use Rattle.machine_model.specs.Looks.{look_at};
 ghost use Rattle.machine_model.specs.Machine.{start};
 ghost use Rattle.machine_model.specs.Rules.{rule, rule_of_frames, marks, may_take, switch_of};
 ghost use Rattle.machine_model.specs.Bound.{events_left};
@@ -14,22 +15,24 @@ ghost use Rattle.machine_core.specs.MethodMachine.{next_event, next_machine};
 ghost use Rattle.machine_core.specs.Valid.{is_direct, most_task_steps, change};
 
 use crate::interrupts::{below, enter};
+use crate::looks::look_line;
 use crate::{Event, How, What};
-use app_image::{Config, Image, ObjDef};
-use arrayvec::ArrayVec;
+use app_image::{Config, Image, kinds_in};
 use deferred_queue::DeferredQueue;
+use due_looks::Looks;
 use inject_list::InjectList;
 use isr_nesting::Frames;
-use kern_base::{Kind, Kinds, Method, NoMemory, TaskId};
+use kern_base::{Kinds, Method, NoMemory, TaskId};
 use kernel_calls::Kernel;
 use links::Links;
 use rv32_exec::{Program, Ram};
 use std::alloc::Global;
 use std::marker::Model;
 
-/// The machine that runs an application and its recorded interrupts by one of the two posting methods: its tasks'
-/// registers, the kernel, the memory, the frames of interrupt code, the posts that wait and the counts of steps.
-/// All its memory is taken by `load`. Nothing of it knows which links the kernel runs over.
+/// The machine that runs an application and its recorded interrupts by one of the two posting methods, and tells of its
+/// lists where a look comes: its tasks' registers, the kernel, the memory, the frames of interrupt code, the posts that
+/// wait, the looks to come and the counts of steps. All its memory is taken by `load`. Nothing of it knows which links
+/// the kernel runs over.
 #[derive(Drop)]
 pub struct Machine<L: Links> {
     pub(crate) method: Method,
@@ -41,6 +44,7 @@ pub struct Machine<L: Links> {
     pub(crate) current: TaskId,
     pub(crate) frames: Frames,
     pub(crate) later: DeferredQueue,
+    pub(crate) looks: Looks,
     pub(crate) begun: bool,
     pub(crate) s: u64,
     pub(crate) t: u32,
@@ -53,21 +57,9 @@ impl<L: Links> Model for Machine<L> {
 
     ghost use Rattle.machine_core.specs.MachineView.{method_machine_of, parts, IsKept};
 
-    ghost view = { λ a. method_machine_of (parts a.method a.kernel a.kinds a.ram a.program a.config a.current a.frames a.later a.begun a.s a.t) };
+    ghost view = { λ a. method_machine_of (parts a.method a.kernel a.kinds a.ram a.program a.config a.current a.frames a.later a.looks a.begun a.s a.t) };
 
-    ghost invariant = { λ a. IsKept (parts a.method a.kernel a.kinds a.ram a.program a.config a.current a.frames a.later a.begun a.s a.t) };
-}
-
-// The kinds of the objects, in order.
-fn kinds_in(objects: &[ObjDef]) -> ArrayVec<Kind, 64>
-    requires { length objects.now ≤ 64 }
-    ensures { result.items ≡ map (λ o. o.kind) objects.now }
-{
-    let mut kinds = ArrayVec::new();
-    for object in objects {
-        kinds.push(object.kind);
-    }
-    kinds
+    ghost invariant = { λ a. IsKept (parts a.method a.kernel a.kinds a.ram a.program a.config a.current a.frames a.later a.looks a.begun a.s a.t) };
 }
 
 // What the static checks of a call look at.
@@ -79,7 +71,7 @@ fn kinds_of(image: &Image) -> Kinds
 }
 
 impl<L: Links> Machine<L> {
-    /// The machine at the start of a run of this application by this method with these interrupts, and no look.
+    /// The machine at the start of a run of this application by this method with these interrupts and looks.
     pub fn load(
         alloc: Global,
         image: &Image,
@@ -89,7 +81,6 @@ impl<L: Links> Machine<L> {
         pend: L,
     ) -> Result<Machine<L>, NoMemory>
         requires list { IsValidList image.now list.now }
-        requires no_look { list.now.looks ≡ [] }
         requires ready { AreOwn 128 (L.nexts ready) × AreOwn 128 (L.prevs ready) }
         requires pend { AreOwn 576 (L.nexts pend) × AreOwn 576 (L.prevs pend) }
         ensures method { IfOk result (λ m. m.method ≡ method) }
@@ -100,6 +91,7 @@ impl<L: Links> Machine<L> {
         let kernel = Kernel::new(alloc, image, ready, pend)?;
         let frames = Frames::new(alloc, list, image)?;
         let later = DeferredQueue::new(alloc, config.defer_size as u16)?;
+        let looks = Looks::new(alloc, list)?;
         let Ok(ram) = Ram::new(alloc, image.ram()) else {
             return Err(NoMemory);
         };
@@ -117,6 +109,7 @@ impl<L: Links> Machine<L> {
             current,
             frames,
             later,
+            looks,
             begun: false,
             s: 0,
             t: 0,
@@ -213,13 +206,50 @@ impl<L: Links> Machine<L> {
         free && !self.may_take()
     }
 
-    // What happens after the first event, and whether interrupt code reads a register with a mark: an
-    // interrupt that is due enters, which takes no raw step, or else what is there goes on.
+    // What happens after the first event, and whether interrupt code reads a register with a mark: a look that has this
+    // moment is told, which takes no raw step, or else it passes.
     fn go_on(&mut self, line: &mut What) -> bool
         requires begun { self.old.state.begun ≡ true }
         requires open_yet { self.old.state.t < most_task_steps }
         requires blank { line.old ≡ What.Quiet }
         ensures line { line.new ≡ (change self.old.method self.old.state).what }
+        ensures printable { IsPrintable line.new }
+        ensures marked { result ≡ marks program_serves (rule self.old.method self.old.state) self.old.state }
+        ensures machine { self.new ≡ next_machine self.old }
+    {
+        if self.looks.is_due(self.s) {
+            self.look(line);
+            return false;
+        }
+        self.pass(line)
+    }
+
+    // The first look that has this moment is told, and is gone.
+    #[inline(never)]
+    fn look(&mut self, line: &mut What)
+        requires begun { self.old.state.begun ≡ true }
+        requires due { is_some (look_at self.old.state.s self.old.state.looks) ≡ true }
+        requires open_yet { self.old.state.t < most_task_steps }
+        requires blank { line.old ≡ What.Quiet }
+        ensures line { line.new ≡ (change self.old.method self.old.state).what }
+        ensures printable { IsPrintable line.new }
+        ensures marked { marks program_serves (rule self.old.method self.old.state) self.old.state ≡ false }
+        ensures machine { self.new ≡ next_machine self.old }
+    {
+        if let Some(look) = self.looks.take(self.s) {
+            look_line(&self.kernel, look.what, line);
+        }
+    }
+
+    // No look has this moment: an interrupt that is due enters, which takes no raw step, or else what is there goes on.
+    #[inline(always)]
+    fn pass(&mut self, line: &mut What) -> bool
+        requires begun { self.old.state.begun ≡ true }
+        requires no_look { look_at self.old.state.s self.old.state.looks ≡ None }
+        requires open_yet { self.old.state.t < most_task_steps }
+        requires blank { line.old ≡ What.Quiet }
+        ensures line { line.new ≡ (change self.old.method self.old.state).what }
+        ensures printable { IsPrintable line.new }
         ensures marked { result ≡ marks program_serves (rule self.old.method self.old.state) self.old.state }
         ensures machine { self.new ≡ next_machine self.old }
     {

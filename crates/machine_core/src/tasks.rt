@@ -2,7 +2,7 @@
 
 ghost use Rattle.std.specs.Prelude.{◌≡◌, ◌==◌, ◌<◌, ℕ, true, false, [], IsSome, IsSomeAnd, None};
 ghost use Rattle.kern_model.specs.State.{task_at, is_ready};
-ghost use Rattle.kern_model.specs.Services.{program_serves};
+ghost use Rattle.kern_model.specs.Served.{program_serves};
 ghost use Rattle.kernel_calls.specs.KernelRecord.{KernelRecord};
 ghost use Rattle.machine_model.specs.Settling.{settled_task};
 ghost use Rattle.machine_model.specs.Acts.{acts};

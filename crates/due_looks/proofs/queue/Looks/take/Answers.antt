@@ -3,7 +3,7 @@ use Rattle.std.specs.Prelude.{All}
 use Rattle.inject_list.specs.declared.lists.Look.{Look}
 use Rattle.machine_model.specs.Looks.{without_look}
 use Rattle.due_looks.specs.Rest.{IsInOrder}
-use Rattle.due_looks.specs.Order.{looks_of, left}
+use Rattle.due_looks.specs.Order.{looks_of, left, moment_in}
 use Rattle.due_looks.proofs.LookLaws.{due-place, due-moment, without-none, without-keeps, taken-more, order-at, order-behind}
 use Rattle.due_looks.proofs.OrderLaws.{looks-long}
 use Rattle.due_looks.proofs.queue.Looks.take.Goals as goal
@@ -21,6 +21,7 @@ invariant_of-self c =
     let place : f.next < length looks = due-place c.args.s f.next looks c.args.self.now o c.requires l (sym c.in_ok-look.ensures.due) in
     record {
       few = omega (arith, looks-long f.lines.items f.order.items);
+      moment = c.moment_at-self-inside.ensures ∙ ap (λ v. moment_in v (f.next + 1)) c.deref.ensures.value;
       numbers = c.self.invariant.numbers;
       rest = subst (λ v. IsInOrder v (drop (f.next + 1) looks)) (sym (taken-more looks f.lines.items f.next l place)) (order-behind before (get_or looks f.next l) (drop (f.next + 1) looks) (order-at before looks f.next c.self.invariant.rest place l));
     }

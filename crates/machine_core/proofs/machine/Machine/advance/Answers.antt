@@ -1,9 +1,9 @@
-use Rattle.std.proofs.Common.{◌≡◌, ◌<◌, ◌+◌, ◌∙◌, Some, ap, sym, subst, true, false}
+use Rattle.std.proofs.Common.{◌≡◌, ◌<◌, ◌+◌, ◌∙◌, Some, ap, sym, false}
 use Rattle.std.specs.Prelude.{◌==◌}
 use Rattle.kern_model.specs.Call.{call_of}
 use Rattle.kern_model.specs.Services.{cost}
-use Rattle.kernel_calls.specs.KernelRecord.{KernelRecord, ended}
-use Rattle.kernel_calls.specs.Works.{WorkRecord, effect_of}
+use Rattle.kernel_calls.specs.KernelRecord.{ended}
+use Rattle.kernel_calls.specs.Works.{effect_of}
 use Rattle.machine_core.specs.AnswerView.{ended_kernel, ended_line}
 use Rattle.machine_core.specs.MachineView.{machine_of, parts}
 use Rattle.machine_core.proofs.OutcomeLaws.{plain-effect}
@@ -13,7 +13,7 @@ use Rattle.machine_core.proofs.machine.Machine.advance.Goals as goal
 -- a micro-step after which others are left
 pub invariant_of-self : goal.invariant_of-self
 invariant_of-self g c =
-    let a = parts c.self.inside.method c.self.inside.kernel c.self.inside.kinds c.self.inside.ram c.self.inside.program c.self.inside.config c.self.inside.current c.self.inside.frames c.self.inside.later c.self.inside.begun c.self.inside.s c.self.inside.t in
+    let a = parts c.self.inside.method c.self.inside.kernel c.self.inside.kinds c.self.inside.ram c.self.inside.program c.self.inside.config c.self.inside.current c.self.inside.frames c.self.inside.later c.self.inside.looks c.self.inside.begun c.self.inside.s c.self.inside.t in
     let h = c.in-Some.work.now in
     let held : a.kernel.hand ≡ Some h = c.in-Some.ensures in
     let goes : GoesOn a.method (machine_of a) = rw (← c.self.view_is) at c.requires.rule in
@@ -24,7 +24,7 @@ invariant_of-self g c =
 
 pub returns-in-More-clause-line : goal.returns-in-More-clause-line
 returns-in-More-clause-line g c =
-    let a = parts c.self.inside.method c.self.inside.kernel c.self.inside.kinds c.self.inside.ram c.self.inside.program c.self.inside.config c.self.inside.current c.self.inside.frames c.self.inside.later c.self.inside.begun c.self.inside.s c.self.inside.t in
+    let a = parts c.self.inside.method c.self.inside.kernel c.self.inside.kinds c.self.inside.ram c.self.inside.program c.self.inside.config c.self.inside.current c.self.inside.frames c.self.inside.later c.self.inside.looks c.self.inside.begun c.self.inside.s c.self.inside.t in
     let h = c.in-Some.work.now in
     let held : a.kernel.hand ≡ Some h = c.in-Some.ensures in
     let goes : GoesOn a.method (machine_of a) = rw (← c.self.view_is) at c.requires.rule in
@@ -34,7 +34,7 @@ returns-in-More-clause-line g c =
 
 pub returns-in-More-clause-machine : goal.returns-in-More-clause-machine
 returns-in-More-clause-machine g c =
-    let a = parts c.self.inside.method c.self.inside.kernel c.self.inside.kinds c.self.inside.ram c.self.inside.program c.self.inside.config c.self.inside.current c.self.inside.frames c.self.inside.later c.self.inside.begun c.self.inside.s c.self.inside.t in
+    let a = parts c.self.inside.method c.self.inside.kernel c.self.inside.kinds c.self.inside.ram c.self.inside.program c.self.inside.config c.self.inside.current c.self.inside.frames c.self.inside.later c.self.inside.looks c.self.inside.begun c.self.inside.s c.self.inside.t in
     let h = c.in-Some.work.now in
     let held : a.kernel.hand ≡ Some h = c.in-Some.ensures in
     let goes : GoesOn a.method (machine_of a) = rw (← c.self.view_is) at c.requires.rule in
@@ -45,7 +45,7 @@ returns-in-More-clause-machine g c =
 -- the last one
 pub end-requires-clause-plain : goal.end-requires-clause-plain
 end-requires-clause-plain g c =
-    let a = parts c.self.inside.method c.self.inside.kernel c.self.inside.kinds c.self.inside.ram c.self.inside.program c.self.inside.config c.self.inside.current c.self.inside.frames c.self.inside.later c.self.inside.begun c.self.inside.s c.self.inside.t in
+    let a = parts c.self.inside.method c.self.inside.kernel c.self.inside.kinds c.self.inside.ram c.self.inside.program c.self.inside.config c.self.inside.current c.self.inside.frames c.self.inside.later c.self.inside.looks c.self.inside.begun c.self.inside.s c.self.inside.t in
     let h = c.in-Some.work.now in
     let held : a.kernel.hand ≡ Some h = c.in-Some.ensures in
     let goes : GoesOn a.method (machine_of a) = rw (← c.self.view_is) at c.requires.rule in
@@ -56,7 +56,7 @@ end-requires-clause-plain g c =
 
 pub invariant_of-self-in-Done : goal.invariant_of-self-in-Done
 invariant_of-self-in-Done g c =
-    let a = parts c.self.inside.method c.self.inside.kernel c.self.inside.kinds c.self.inside.ram c.self.inside.program c.self.inside.config c.self.inside.current c.self.inside.frames c.self.inside.later c.self.inside.begun c.self.inside.s c.self.inside.t in
+    let a = parts c.self.inside.method c.self.inside.kernel c.self.inside.kinds c.self.inside.ram c.self.inside.program c.self.inside.config c.self.inside.current c.self.inside.frames c.self.inside.later c.self.inside.looks c.self.inside.begun c.self.inside.s c.self.inside.t in
     let h = c.in-Some.work.now in
     let held : a.kernel.hand ≡ Some h = c.in-Some.ensures in
     let goes : GoesOn a.method (machine_of a) = rw (← c.self.view_is) at c.requires.rule in
@@ -72,7 +72,7 @@ invariant_of-self-in-Done g c =
 
 pub returns-in-Done-clause-line : goal.returns-in-Done-clause-line
 returns-in-Done-clause-line g c =
-    let a = parts c.self.inside.method c.self.inside.kernel c.self.inside.kinds c.self.inside.ram c.self.inside.program c.self.inside.config c.self.inside.current c.self.inside.frames c.self.inside.later c.self.inside.begun c.self.inside.s c.self.inside.t in
+    let a = parts c.self.inside.method c.self.inside.kernel c.self.inside.kinds c.self.inside.ram c.self.inside.program c.self.inside.config c.self.inside.current c.self.inside.frames c.self.inside.later c.self.inside.looks c.self.inside.begun c.self.inside.s c.self.inside.t in
     let h = c.in-Some.work.now in
     let held : a.kernel.hand ≡ Some h = c.in-Some.ensures in
     let goes : GoesOn a.method (machine_of a) = rw (← c.self.view_is) at c.requires.rule in
@@ -84,7 +84,7 @@ returns-in-Done-clause-line g c =
 
 pub returns-in-Done-clause-machine : goal.returns-in-Done-clause-machine
 returns-in-Done-clause-machine g c =
-    let a = parts c.self.inside.method c.self.inside.kernel c.self.inside.kinds c.self.inside.ram c.self.inside.program c.self.inside.config c.self.inside.current c.self.inside.frames c.self.inside.later c.self.inside.begun c.self.inside.s c.self.inside.t in
+    let a = parts c.self.inside.method c.self.inside.kernel c.self.inside.kinds c.self.inside.ram c.self.inside.program c.self.inside.config c.self.inside.current c.self.inside.frames c.self.inside.later c.self.inside.looks c.self.inside.begun c.self.inside.s c.self.inside.t in
     let h = c.in-Some.work.now in
     let held : a.kernel.hand ≡ Some h = c.in-Some.ensures in
     let goes : GoesOn a.method (machine_of a) = rw (← c.self.view_is) at c.requires.rule in

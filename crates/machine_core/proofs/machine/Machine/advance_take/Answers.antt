@@ -1,120 +1,86 @@
-use Rattle.std.proofs.Common.{◌≡◌, ◌<◌, ◌+◌, ◌∙◌, Some, ap, sym, subst, true, false}
+use Rattle.std.proofs.Common.{◌<◌, ◌∙◌, ap, sym}
 use Rattle.std.specs.Prelude.{◌==◌, ◌&&◌}
 use Rattle.kern_base.specs.Services.{argument_count}
-use Rattle.kern_model.specs.Services.{cost}
-use Rattle.kernel_calls.specs.KernelRecord.{KernelRecord, ended}
-use Rattle.kernel_calls.specs.Works.{WorkRecord, effect_of}
+use Rattle.kernel_calls.specs.KernelRecord.{KernelRecord}
+use Rattle.kernel_calls.specs.Works.{effect_of}
 use Rattle.machine_model.specs.Answers.{arguments}
 use Rattle.machine_model.specs.Interrupts.{answer_in}
 use Rattle.machine_model.specs.Queue.{Queued}
 use Rattle.machine_model.specs.Steps.{some_readied}
 use Rattle.machine_model.specs.declared.events.What.TheVariants.{Take}
 use Rattle.machine_core.specs.MachineView.{machine_of, parts}
-use Rattle.machine_core.proofs.MachineFacts.{GoesOn, more-machine, more-line, more-kept, not-last, is-last, outcome-is, take-held, take-kept, take-machine, take-told, waits-take}
+use Rattle.machine_core.proofs.MachineFacts.{GoesOn, more-machine, more-line, more-kept, take-kept, take-machine, take-told, waits-take}
+use Rattle.machine_core.proofs.TakeFacts.{last-of-take, more-of-take}
 use Rattle.machine_core.proofs.machine.Machine.advance_take.Goals as goal
 
 -- the last micro-step
 pub drop_front-requires : goal.drop_front-requires
 drop_front-requires g c =
-    let a = parts c.self.inside.method c.self.inside.kernel c.self.inside.kinds c.self.inside.ram c.self.inside.program c.self.inside.config c.self.inside.current c.self.inside.frames c.self.inside.later c.self.inside.begun c.self.inside.s c.self.inside.t in
+    let a = parts c.self.inside.method c.self.inside.kernel c.self.inside.kinds c.self.inside.ram c.self.inside.program c.self.inside.config c.self.inside.current c.self.inside.frames c.self.inside.later c.self.inside.looks c.self.inside.begun c.self.inside.s c.self.inside.t in
     let q : Queued = record { service = c.args.service; args = c.args.args; saved = c.args.saved.0 } in
-    let got = take-held a.kernel.hand q c.requires.takes.0 (rw (← c.self.view_is) at c.requires.takes.1) in
-    let h = got.0 in
-    let held = got.1 in
     let goes : GoesOn a.method (machine_of a) = rw (← c.self.view_is) at c.requires.rule in
-    let p : h.done + 1 ≡ cost (effect_of h a.kernel.state) a.kernel.state = is-last a.kernel c.perform-progress.new.kernel h c.perform-progress.result.0 held c.perform-progress.ensures.open_yet c.perform-progress.ensures.more c.perform-progress.ensures.done c.in-Done.outcome c.in-Done.is in
-    let ends = (c.perform-progress.ensures.done h held p).1 in
-    waits-take a h c.self.invariant goes held p got.2
+    let l = last-of-take q a.kernel c.perform-progress.new.kernel c.perform-progress.result.0 c.requires.takes.0 (rw (← c.self.view_is) at c.requires.takes.1) c.perform-progress.ensures.open_yet c.perform-progress.ensures.more c.perform-progress.ensures.done c.in-Done.outcome c.in-Done.is in
+    waits-take a l.hand c.self.invariant goes l.held l.last l.takes
 
 pub settle-self-inside-requires : goal.settle-self-inside-requires
 settle-self-inside-requires g c =
-    let a = parts c.self.inside.method c.self.inside.kernel c.self.inside.kinds c.self.inside.ram c.self.inside.program c.self.inside.config c.self.inside.current c.self.inside.frames c.self.inside.later c.self.inside.begun c.self.inside.s c.self.inside.t in
+    let a = parts c.self.inside.method c.self.inside.kernel c.self.inside.kinds c.self.inside.ram c.self.inside.program c.self.inside.config c.self.inside.current c.self.inside.frames c.self.inside.later c.self.inside.looks c.self.inside.begun c.self.inside.s c.self.inside.t in
     let q : Queued = record { service = c.args.service; args = c.args.args; saved = c.args.saved.0 } in
-    let got = take-held a.kernel.hand q c.requires.takes.0 (rw (← c.self.view_is) at c.requires.takes.1) in
-    let h = got.0 in
-    let held = got.1 in
-    let goes : GoesOn a.method (machine_of a) = rw (← c.self.view_is) at c.requires.rule in
-    let p : h.done + 1 ≡ cost (effect_of h a.kernel.state) a.kernel.state = is-last a.kernel c.perform-progress.new.kernel h c.perform-progress.result.0 held c.perform-progress.ensures.open_yet c.perform-progress.ensures.more c.perform-progress.ensures.done c.in-Done.outcome c.in-Done.is in
-    let ends = (c.perform-progress.ensures.done h held p).1 in
-    ap (λ (k : KernelRecord). k.hand) ends
+    let l = last-of-take q a.kernel c.perform-progress.new.kernel c.perform-progress.result.0 c.requires.takes.0 (rw (← c.self.view_is) at c.requires.takes.1) c.perform-progress.ensures.open_yet c.perform-progress.ensures.more c.perform-progress.ensures.done c.in-Done.outcome c.in-Done.is in
+    ap (λ (k : KernelRecord). k.hand) l.ends
 
 pub invariant_of-self : goal.invariant_of-self
 invariant_of-self g c =
-    let a = parts c.self.inside.method c.self.inside.kernel c.self.inside.kinds c.self.inside.ram c.self.inside.program c.self.inside.config c.self.inside.current c.self.inside.frames c.self.inside.later c.self.inside.begun c.self.inside.s c.self.inside.t in
+    let a = parts c.self.inside.method c.self.inside.kernel c.self.inside.kinds c.self.inside.ram c.self.inside.program c.self.inside.config c.self.inside.current c.self.inside.frames c.self.inside.later c.self.inside.looks c.self.inside.begun c.self.inside.s c.self.inside.t in
     let q : Queued = record { service = c.args.service; args = c.args.args; saved = c.args.saved.0 } in
-    let got = take-held a.kernel.hand q c.requires.takes.0 (rw (← c.self.view_is) at c.requires.takes.1) in
-    let h = got.0 in
-    let held = got.1 in
     let goes : GoesOn a.method (machine_of a) = rw (← c.self.view_is) at c.requires.rule in
     let open_yet : a.t < 1000000 = rw (← c.self.view_is) at c.requires.open_yet in
-    let p : h.done + 1 ≡ cost (effect_of h a.kernel.state) a.kernel.state = is-last a.kernel c.perform-progress.new.kernel h c.perform-progress.result.0 held c.perform-progress.ensures.open_yet c.perform-progress.ensures.more c.perform-progress.ensures.done c.in-Done.outcome c.in-Done.is in
-    let ends = (c.perform-progress.ensures.done h held p).1 in
-    take-kept a h c.self.invariant goes held p got.2 c.perform-progress.new.kernel c.drop_front.new.self c.settle-self-inside.result ends c.drop_front.ensures c.settle-self-inside.ensures open_yet
+    let l = last-of-take q a.kernel c.perform-progress.new.kernel c.perform-progress.result.0 c.requires.takes.0 (rw (← c.self.view_is) at c.requires.takes.1) c.perform-progress.ensures.open_yet c.perform-progress.ensures.more c.perform-progress.ensures.done c.in-Done.outcome c.in-Done.is in
+    take-kept a l.hand c.self.invariant goes l.held l.last l.takes c.perform-progress.new.kernel c.drop_front.new.self c.settle-self-inside.result l.ends c.drop_front.ensures c.settle-self-inside.ensures open_yet
 
 pub returns-in-Done-clause-machine : goal.returns-in-Done-clause-machine
 returns-in-Done-clause-machine g c =
-    let a = parts c.self.inside.method c.self.inside.kernel c.self.inside.kinds c.self.inside.ram c.self.inside.program c.self.inside.config c.self.inside.current c.self.inside.frames c.self.inside.later c.self.inside.begun c.self.inside.s c.self.inside.t in
+    let a = parts c.self.inside.method c.self.inside.kernel c.self.inside.kinds c.self.inside.ram c.self.inside.program c.self.inside.config c.self.inside.current c.self.inside.frames c.self.inside.later c.self.inside.looks c.self.inside.begun c.self.inside.s c.self.inside.t in
     let q : Queued = record { service = c.args.service; args = c.args.args; saved = c.args.saved.0 } in
-    let got = take-held a.kernel.hand q c.requires.takes.0 (rw (← c.self.view_is) at c.requires.takes.1) in
-    let h = got.0 in
-    let held = got.1 in
     let goes : GoesOn a.method (machine_of a) = rw (← c.self.view_is) at c.requires.rule in
-    let p : h.done + 1 ≡ cost (effect_of h a.kernel.state) a.kernel.state = is-last a.kernel c.perform-progress.new.kernel h c.perform-progress.result.0 held c.perform-progress.ensures.open_yet c.perform-progress.ensures.more c.perform-progress.ensures.done c.in-Done.outcome c.in-Done.is in
-    let ends = (c.perform-progress.ensures.done h held p).1 in
-    rw (← c.self.view_is) (take-machine a h c.self.invariant goes held p got.2 c.perform-progress.new.kernel c.drop_front.new.self c.settle-self-inside.result ends c.drop_front.ensures c.settle-self-inside.ensures)
+    let l = last-of-take q a.kernel c.perform-progress.new.kernel c.perform-progress.result.0 c.requires.takes.0 (rw (← c.self.view_is) at c.requires.takes.1) c.perform-progress.ensures.open_yet c.perform-progress.ensures.more c.perform-progress.ensures.done c.in-Done.outcome c.in-Done.is in
+    rw (← c.self.view_is) (take-machine a l.hand c.self.invariant goes l.held l.last l.takes c.perform-progress.new.kernel c.drop_front.new.self c.settle-self-inside.result l.ends c.drop_front.ensures c.settle-self-inside.ensures)
 
 pub returns-in-Done-clause-line : goal.returns-in-Done-clause-line
 returns-in-Done-clause-line g c =
-    let a = parts c.self.inside.method c.self.inside.kernel c.self.inside.kinds c.self.inside.ram c.self.inside.program c.self.inside.config c.self.inside.current c.self.inside.frames c.self.inside.later c.self.inside.begun c.self.inside.s c.self.inside.t in
+    let a = parts c.self.inside.method c.self.inside.kernel c.self.inside.kinds c.self.inside.ram c.self.inside.program c.self.inside.config c.self.inside.current c.self.inside.frames c.self.inside.later c.self.inside.looks c.self.inside.begun c.self.inside.s c.self.inside.t in
     let q : Queued = record { service = c.args.service; args = c.args.args; saved = c.args.saved.0 } in
-    let got = take-held a.kernel.hand q c.requires.takes.0 (rw (← c.self.view_is) at c.requires.takes.1) in
-    let h = got.0 in
-    let held = got.1 in
     let goes : GoesOn a.method (machine_of a) = rw (← c.self.view_is) at c.requires.rule in
-    let p : h.done + 1 ≡ cost (effect_of h a.kernel.state) a.kernel.state = is-last a.kernel c.perform-progress.new.kernel h c.perform-progress.result.0 held c.perform-progress.ensures.open_yet c.perform-progress.ensures.more c.perform-progress.ensures.done c.in-Done.outcome c.in-Done.is in
-    let ends = (c.perform-progress.ensures.done h held p).1 in
-    let outcome = outcome-is a.kernel c.perform-progress.new.kernel h c.perform-progress.result.0 held c.perform-progress.ensures.open_yet c.perform-progress.ensures.more c.perform-progress.ensures.done c.in-Done.outcome c.in-Done.is in
-    let same = c.perform-progress.ensures.same ∙ ap (λ (k : KernelRecord). (a.config.insert == 1) && some_readied c.args.saved.0 a.kernel.state.tasks k.state.tasks) ends
-    ∙ ap (λ (r : Queued). (a.config.insert == 1) && some_readied r.saved a.kernel.state.tasks (effect_of h a.kernel.state).kernel.tasks) (sym got.3) in
+    let l = last-of-take q a.kernel c.perform-progress.new.kernel c.perform-progress.result.0 c.requires.takes.0 (rw (← c.self.view_is) at c.requires.takes.1) c.perform-progress.ensures.open_yet c.perform-progress.ensures.more c.perform-progress.ensures.done c.in-Done.outcome c.in-Done.is in
+    let same = c.perform-progress.ensures.same ∙ ap (λ (k : KernelRecord). (a.config.insert == 1) && some_readied c.args.saved.0 a.kernel.state.tasks k.state.tasks) l.ends
+    ∙ ap (λ (r : Queued). (a.config.insert == 1) && some_readied r.saved a.kernel.state.tasks (effect_of l.hand a.kernel.state).kernel.tasks) (sym l.queued) in
     let told = c.take_line.ensures
-    ∙ ap (λ (r : Queued). let o = answer_in c.in-Done.outcome in Take r.service (arguments r.service r.args) (argument_count r.service) o.err o.value c.perform-progress.result.1) (sym got.3)
-    ∙ ap (λ u. let o = answer_in u in Take h.request.service (arguments h.request.service h.request.args) (argument_count h.request.service) o.err o.value c.perform-progress.result.1) outcome in
-    rw (← c.self.view_is) (take-told a h c.self.invariant goes held p got.2 c.take_line.new.line c.perform-progress.result.1 told same)
+    ∙ ap (λ (r : Queued). let o = answer_in c.in-Done.outcome in Take r.service (arguments r.service r.args) (argument_count r.service) o.err o.value c.perform-progress.result.1) (sym l.queued)
+    ∙ ap (λ u. let o = answer_in u in Take l.hand.request.service (arguments l.hand.request.service l.hand.request.args) (argument_count l.hand.request.service) o.err o.value c.perform-progress.result.1) l.outcome in
+    rw (← c.self.view_is) (take-told a l.hand c.self.invariant goes l.held l.last l.takes c.take_line.new.line c.perform-progress.result.1 told same)
 
 -- one after which others are left
 pub invariant_of-self-in_default : goal.invariant_of-self-in_default
 invariant_of-self-in_default g c =
-    let a = parts c.self.inside.method c.self.inside.kernel c.self.inside.kinds c.self.inside.ram c.self.inside.program c.self.inside.config c.self.inside.current c.self.inside.frames c.self.inside.later c.self.inside.begun c.self.inside.s c.self.inside.t in
+    let a = parts c.self.inside.method c.self.inside.kernel c.self.inside.kinds c.self.inside.ram c.self.inside.program c.self.inside.config c.self.inside.current c.self.inside.frames c.self.inside.later c.self.inside.looks c.self.inside.begun c.self.inside.s c.self.inside.t in
     let q : Queued = record { service = c.args.service; args = c.args.args; saved = c.args.saved.0 } in
-    let got = take-held a.kernel.hand q c.requires.takes.0 (rw (← c.self.view_is) at c.requires.takes.1) in
-    let h = got.0 in
-    let held = got.1 in
     let goes : GoesOn a.method (machine_of a) = rw (← c.self.view_is) at c.requires.rule in
     let open_yet : a.t < 1000000 = rw (← c.self.view_is) at c.requires.open_yet in
-    let p : h.done + 1 < cost (effect_of h a.kernel.state) a.kernel.state = not-last a.kernel c.perform-progress.new.kernel h c.perform-progress.result.0 held c.perform-progress.ensures.open_yet c.perform-progress.ensures.more c.perform-progress.ensures.done c.in_default.is in
-    let next = (c.perform-progress.ensures.more h held p).1 in
-    more-kept a h c.perform-progress.new.kernel c.self.invariant goes held open_yet p next
+    let l = more-of-take q a.kernel c.perform-progress.new.kernel c.perform-progress.result.0 c.requires.takes.0 (rw (← c.self.view_is) at c.requires.takes.1) c.perform-progress.ensures.open_yet c.perform-progress.ensures.more c.perform-progress.ensures.done c.in_default.is in
+    more-kept a l.hand c.perform-progress.new.kernel c.self.invariant goes l.held open_yet l.left l.next
 
 pub returns-in_default-clause-line : goal.returns-in_default-clause-line
 returns-in_default-clause-line g c =
-    let a = parts c.self.inside.method c.self.inside.kernel c.self.inside.kinds c.self.inside.ram c.self.inside.program c.self.inside.config c.self.inside.current c.self.inside.frames c.self.inside.later c.self.inside.begun c.self.inside.s c.self.inside.t in
+    let a = parts c.self.inside.method c.self.inside.kernel c.self.inside.kinds c.self.inside.ram c.self.inside.program c.self.inside.config c.self.inside.current c.self.inside.frames c.self.inside.later c.self.inside.looks c.self.inside.begun c.self.inside.s c.self.inside.t in
     let q : Queued = record { service = c.args.service; args = c.args.args; saved = c.args.saved.0 } in
-    let got = take-held a.kernel.hand q c.requires.takes.0 (rw (← c.self.view_is) at c.requires.takes.1) in
-    let h = got.0 in
-    let held = got.1 in
     let goes : GoesOn a.method (machine_of a) = rw (← c.self.view_is) at c.requires.rule in
-    let p : h.done + 1 < cost (effect_of h a.kernel.state) a.kernel.state = not-last a.kernel c.perform-progress.new.kernel h c.perform-progress.result.0 held c.perform-progress.ensures.open_yet c.perform-progress.ensures.more c.perform-progress.ensures.done c.in_default.is in
-    let next = (c.perform-progress.ensures.more h held p).1 in
-    rw (← c.self.view_is) (c.requires.blank ∙ more-line a h c.self.invariant goes held p)
+    let l = more-of-take q a.kernel c.perform-progress.new.kernel c.perform-progress.result.0 c.requires.takes.0 (rw (← c.self.view_is) at c.requires.takes.1) c.perform-progress.ensures.open_yet c.perform-progress.ensures.more c.perform-progress.ensures.done c.in_default.is in
+    rw (← c.self.view_is) (c.requires.blank ∙ more-line a l.hand c.self.invariant goes l.held l.left)
 
 pub returns-in_default-clause-machine : goal.returns-in_default-clause-machine
 returns-in_default-clause-machine g c =
-    let a = parts c.self.inside.method c.self.inside.kernel c.self.inside.kinds c.self.inside.ram c.self.inside.program c.self.inside.config c.self.inside.current c.self.inside.frames c.self.inside.later c.self.inside.begun c.self.inside.s c.self.inside.t in
+    let a = parts c.self.inside.method c.self.inside.kernel c.self.inside.kinds c.self.inside.ram c.self.inside.program c.self.inside.config c.self.inside.current c.self.inside.frames c.self.inside.later c.self.inside.looks c.self.inside.begun c.self.inside.s c.self.inside.t in
     let q : Queued = record { service = c.args.service; args = c.args.args; saved = c.args.saved.0 } in
-    let got = take-held a.kernel.hand q c.requires.takes.0 (rw (← c.self.view_is) at c.requires.takes.1) in
-    let h = got.0 in
-    let held = got.1 in
     let goes : GoesOn a.method (machine_of a) = rw (← c.self.view_is) at c.requires.rule in
-    let p : h.done + 1 < cost (effect_of h a.kernel.state) a.kernel.state = not-last a.kernel c.perform-progress.new.kernel h c.perform-progress.result.0 held c.perform-progress.ensures.open_yet c.perform-progress.ensures.more c.perform-progress.ensures.done c.in_default.is in
-    let next = (c.perform-progress.ensures.more h held p).1 in
-    rw (← c.self.view_is) (more-machine a h c.perform-progress.new.kernel c.self.invariant goes held p next)
+    let l = more-of-take q a.kernel c.perform-progress.new.kernel c.perform-progress.result.0 c.requires.takes.0 (rw (← c.self.view_is) at c.requires.takes.1) c.perform-progress.ensures.open_yet c.perform-progress.ensures.more c.perform-progress.ensures.done c.in_default.is in
+    rw (← c.self.view_is) (more-machine a l.hand c.perform-progress.new.kernel c.self.invariant goes l.held l.left l.next)

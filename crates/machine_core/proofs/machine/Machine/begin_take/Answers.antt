@@ -1,7 +1,6 @@
-use Rattle.std.proofs.Common.{rules, ◌≡◌, ◌<◌, Some, None, ap, sym, true, false, refl, ◌∙◌}
-use Rattle.kern_base.specs.declared.numbers.Prio.{Prio}
+use Rattle.std.proofs.Common.{rules, ◌≡◌, ◌<◌, Some, None, true}
 use Rattle.machine_model.specs.Machine.{handler_compares}
-use Rattle.machine_model.specs.Queue.{Queued, front}
+use Rattle.machine_model.specs.Queue.{front}
 use Rattle.machine_model.specs.Rules.{may_take}
 use Rattle.machine_core.specs.MachineView.{hand_of, machine_of, parts}
 use Rattle.machine_core.proofs.MachineFacts.{GoesOn, begin-kept}
@@ -10,7 +9,7 @@ use Rattle.machine_core.proofs.machine.Machine.begin_take.Goals.{then-self-eq1, 
 
 pub invariant_of-self : goal.invariant_of-self
 invariant_of-self g c =
-    let a = parts c.self.inside.method c.self.inside.kernel c.self.inside.kinds c.self.inside.ram c.self.inside.program c.self.inside.config c.self.inside.current c.self.inside.frames c.self.inside.later c.self.inside.begun c.self.inside.s c.self.inside.t in
+    let a = parts c.self.inside.method c.self.inside.kernel c.self.inside.kinds c.self.inside.ram c.self.inside.program c.self.inside.config c.self.inside.current c.self.inside.frames c.self.inside.later c.self.inside.looks c.self.inside.begun c.self.inside.s c.self.inside.t in
     let goes : GoesOn a.method (machine_of a) = rw (← c.self.view_is) at c.requires.rule in
     let free : hand_of a.kernel.hand ≡ None = rw (← c.self.view_is) at c.requires.free in
     let may : may_take (machine_of a) ≡ true = rw (← c.self.view_is) at c.requires.may in

@@ -15,7 +15,7 @@ use Rattle.machine_core.proofs.machine.Machine.instruct.Goals as goal
 -- the task has stopped
 pub invariant_of-self-in-Trap : goal.invariant_of-self-in-Trap
 invariant_of-self-in-Trap g c =
-    let a = parts c.self.inside.method c.self.inside.kernel c.self.inside.kinds c.self.inside.ram c.self.inside.program c.self.inside.config c.self.inside.current c.self.inside.frames c.self.inside.later c.self.inside.begun c.self.inside.s c.self.inside.t in
+    let a = parts c.self.inside.method c.self.inside.kernel c.self.inside.kinds c.self.inside.ram c.self.inside.program c.self.inside.config c.self.inside.current c.self.inside.frames c.self.inside.later c.self.inside.looks c.self.inside.begun c.self.inside.s c.self.inside.t in
     let x = c.args.task.0 in
     let acts : rule a.method (machine_of a) ≡ TaskActs = rw (← c.self.view_is) at c.requires.rule in
     let current : a.current.0 ≡ x = rw (← c.self.view_is) at c.requires.current in
@@ -28,11 +28,11 @@ invariant_of-self-in-Trap g c =
     kept-change a _ c.self.invariant open_yet
     (with_method a.method (trap-machine a x c.requires.application c.stop.new.self c.run_task.new.self c.run_task.new.ram c.settle-self-inside.result c.in-Trap.kind c.in-Trap.pc did c.run_task.ensures.memory current c.run_task.ensures.registers c.stop.ensures.kernel c.settle-self-inside.ensures
     ∙ ap (λ (d : Change). d.machine) (sym same)))
-    (record { still = steady.still; kinds = steady.kinds; work = rw (c.stop.ensures.kernel, c.run_task.ensures.registers) (none_fit a.config a.kernel.hand rests.0.in_hand); size = c.self.invariant.parts.size; vectors = c.self.invariant.parts.vectors })
+    (record { still = steady.still; kinds = steady.kinds; work = rw (c.stop.ensures.kernel, c.run_task.ensures.registers) (none_fit a.config a.kernel.hand rests.0.in_hand); size = c.self.invariant.parts.size; vectors = c.self.invariant.parts.vectors; looks = c.self.invariant.parts.looks })
 
 pub returns-in-Trap-clause-machine : goal.returns-in-Trap-clause-machine
 returns-in-Trap-clause-machine g c =
-    let a = parts c.self.inside.method c.self.inside.kernel c.self.inside.kinds c.self.inside.ram c.self.inside.program c.self.inside.config c.self.inside.current c.self.inside.frames c.self.inside.later c.self.inside.begun c.self.inside.s c.self.inside.t in
+    let a = parts c.self.inside.method c.self.inside.kernel c.self.inside.kinds c.self.inside.ram c.self.inside.program c.self.inside.config c.self.inside.current c.self.inside.frames c.self.inside.later c.self.inside.looks c.self.inside.begun c.self.inside.s c.self.inside.t in
     let x = c.args.task.0 in
     let current : a.current.0 ≡ x = rw (← c.self.view_is) at c.requires.current in
     let did : (e a x c.requires.application).did ≡ Trap c.in-Trap.kind c.in-Trap.pc = sym c.run_task.ensures.did ∙ c.in-Trap.is in
@@ -41,7 +41,7 @@ returns-in-Trap-clause-machine g c =
 -- it has called
 pub returns-in-Call-clause-line : goal.returns-in-Call-clause-line
 returns-in-Call-clause-line g c =
-    let a = parts c.self.inside.method c.self.inside.kernel c.self.inside.kinds c.self.inside.ram c.self.inside.program c.self.inside.config c.self.inside.current c.self.inside.frames c.self.inside.later c.self.inside.begun c.self.inside.s c.self.inside.t in
+    let a = parts c.self.inside.method c.self.inside.kernel c.self.inside.kinds c.self.inside.ram c.self.inside.program c.self.inside.config c.self.inside.current c.self.inside.frames c.self.inside.later c.self.inside.looks c.self.inside.begun c.self.inside.s c.self.inside.t in
     let x = c.args.task.0 in
     let did : (e a x c.requires.application).did ≡ Call = sym c.run_task.ensures.did ∙ c.in-Call.is in
     let regs : c.tcb-tcb.result.now.regs ≡ (e a x c.requires.application).registers = called-registers a x c.requires.application c.run_task.new.self c.tcb-tcb.result.now.regs c.self.invariant.valid.registers c.run_task.ensures.registers c.tcb-tcb.ensures.registers in
@@ -50,7 +50,7 @@ returns-in-Call-clause-line g c =
 
 pub returns-in-Call-clause-machine : goal.returns-in-Call-clause-machine
 returns-in-Call-clause-machine g c =
-    let a = parts c.self.inside.method c.self.inside.kernel c.self.inside.kinds c.self.inside.ram c.self.inside.program c.self.inside.config c.self.inside.current c.self.inside.frames c.self.inside.later c.self.inside.begun c.self.inside.s c.self.inside.t in
+    let a = parts c.self.inside.method c.self.inside.kernel c.self.inside.kinds c.self.inside.ram c.self.inside.program c.self.inside.config c.self.inside.current c.self.inside.frames c.self.inside.later c.self.inside.looks c.self.inside.begun c.self.inside.s c.self.inside.t in
     let x = c.args.task.0 in
     let did : (e a x c.requires.application).did ≡ Call = sym c.run_task.ensures.did ∙ c.in-Call.is in
     let regs : c.tcb-tcb.result.now.regs ≡ (e a x c.requires.application).registers = called-registers a x c.requires.application c.run_task.new.self c.tcb-tcb.result.now.regs c.self.invariant.valid.registers c.run_task.ensures.registers c.tcb-tcb.ensures.registers in
@@ -60,7 +60,7 @@ returns-in-Call-clause-machine g c =
 
 pub invariant_of-self-in-Call : goal.invariant_of-self-in-Call
 invariant_of-self-in-Call g c =
-    let a = parts c.self.inside.method c.self.inside.kernel c.self.inside.kinds c.self.inside.ram c.self.inside.program c.self.inside.config c.self.inside.current c.self.inside.frames c.self.inside.later c.self.inside.begun c.self.inside.s c.self.inside.t in
+    let a = parts c.self.inside.method c.self.inside.kernel c.self.inside.kinds c.self.inside.ram c.self.inside.program c.self.inside.config c.self.inside.current c.self.inside.frames c.self.inside.later c.self.inside.looks c.self.inside.begun c.self.inside.s c.self.inside.t in
     let x = c.args.task.0 in
     let acts : rule a.method (machine_of a) ≡ TaskActs = rw (← c.self.view_is) at c.requires.rule in
     let current : a.current.0 ≡ x = rw (← c.self.view_is) at c.requires.current in
@@ -80,12 +80,13 @@ invariant_of-self-in-Call g c =
       work = rw (c.begin.ensures.begun, not_handler x c.requires.application) refl;
       size = c.self.invariant.parts.size;
       vectors = c.self.invariant.parts.vectors;
+      looks = c.self.invariant.parts.looks;
     })
 
 -- nothing is in hand
 pub begin-requires-clause-free : goal.begin-requires-clause-free
 begin-requires-clause-free g c =
-    let a = parts c.self.inside.method c.self.inside.kernel c.self.inside.kinds c.self.inside.ram c.self.inside.program c.self.inside.config c.self.inside.current c.self.inside.frames c.self.inside.later c.self.inside.begun c.self.inside.s c.self.inside.t in
+    let a = parts c.self.inside.method c.self.inside.kernel c.self.inside.kinds c.self.inside.ram c.self.inside.program c.self.inside.config c.self.inside.current c.self.inside.frames c.self.inside.later c.self.inside.looks c.self.inside.begun c.self.inside.s c.self.inside.t in
     let acts : rule a.method (machine_of a) ≡ TaskActs = rw (← c.self.view_is) at c.requires.rule in
     let rests : Applies a.method TaskActs (machine_of a) = resting a.method (machine_of a) acts in
     let none = hand-none a.kernel.hand rests.0.in_hand in
@@ -93,7 +94,7 @@ begin-requires-clause-free g c =
 
 pub stop-requires-clause-free : goal.stop-requires-clause-free
 stop-requires-clause-free g c =
-    let a = parts c.self.inside.method c.self.inside.kernel c.self.inside.kinds c.self.inside.ram c.self.inside.program c.self.inside.config c.self.inside.current c.self.inside.frames c.self.inside.later c.self.inside.begun c.self.inside.s c.self.inside.t in
+    let a = parts c.self.inside.method c.self.inside.kernel c.self.inside.kinds c.self.inside.ram c.self.inside.program c.self.inside.config c.self.inside.current c.self.inside.frames c.self.inside.later c.self.inside.looks c.self.inside.begun c.self.inside.s c.self.inside.t in
     let acts : rule a.method (machine_of a) ≡ TaskActs = rw (← c.self.view_is) at c.requires.rule in
     let rests : Applies a.method TaskActs (machine_of a) = resting a.method (machine_of a) acts in
     let none = hand-none a.kernel.hand rests.0.in_hand in
@@ -101,7 +102,7 @@ stop-requires-clause-free g c =
 
 pub settle-self-inside-requires : goal.settle-self-inside-requires
 settle-self-inside-requires g c =
-    let a = parts c.self.inside.method c.self.inside.kernel c.self.inside.kinds c.self.inside.ram c.self.inside.program c.self.inside.config c.self.inside.current c.self.inside.frames c.self.inside.later c.self.inside.begun c.self.inside.s c.self.inside.t in
+    let a = parts c.self.inside.method c.self.inside.kernel c.self.inside.kinds c.self.inside.ram c.self.inside.program c.self.inside.config c.self.inside.current c.self.inside.frames c.self.inside.later c.self.inside.looks c.self.inside.begun c.self.inside.s c.self.inside.t in
     let acts : rule a.method (machine_of a) ≡ TaskActs = rw (← c.self.view_is) at c.requires.rule in
     let rests : Applies a.method TaskActs (machine_of a) = resting a.method (machine_of a) acts in
     let none = hand-none a.kernel.hand rests.0.in_hand in

@@ -18,11 +18,11 @@ pub frame_step_by-marked-requires-clause-low : goal.frame_step_by-marked-require
 frame_step_by-marked-requires-clause-low g c =
     let fs = c.self.inside.frames.frames in
     let stands : none_stands fs ≡ false = rw (← c.self.view_is) at c.requires.stands in
-    vector-top (parts c.self.inside.method c.self.inside.kernel c.self.inside.kinds c.self.inside.ram c.self.inside.program c.self.inside.config c.self.inside.current c.self.inside.frames c.self.inside.later c.self.inside.begun c.self.inside.s c.self.inside.t) (top_of fs) (drop 1 fs) (stands-top fs stands) c.self.invariant.parts.vectors
+    vector-top (parts c.self.inside.method c.self.inside.kernel c.self.inside.kinds c.self.inside.ram c.self.inside.program c.self.inside.config c.self.inside.current c.self.inside.frames c.self.inside.later c.self.inside.looks c.self.inside.begun c.self.inside.s c.self.inside.t) (top_of fs) (drop 1 fs) (stands-top fs stands) c.self.invariant.parts.vectors
 
 pub invariant_of-self : goal.invariant_of-self
 invariant_of-self g c =
-    let a = parts c.self.inside.method c.self.inside.kernel c.self.inside.kinds c.self.inside.ram c.self.inside.program c.self.inside.config c.self.inside.current c.self.inside.frames c.self.inside.later c.self.inside.begun c.self.inside.s c.self.inside.t in
+    let a = parts c.self.inside.method c.self.inside.kernel c.self.inside.kinds c.self.inside.ram c.self.inside.program c.self.inside.config c.self.inside.current c.self.inside.frames c.self.inside.later c.self.inside.looks c.self.inside.begun c.self.inside.s c.self.inside.t in
     let fs = a.frames.frames in
     let f : FrameRecord = top_of fs in
     let below = drop 1 fs in
@@ -38,7 +38,7 @@ invariant_of-self g c =
 
 pub returns-clause-line : goal.returns-clause-line
 returns-clause-line g c =
-    let a = parts c.self.inside.method c.self.inside.kernel c.self.inside.kinds c.self.inside.ram c.self.inside.program c.self.inside.config c.self.inside.current c.self.inside.frames c.self.inside.later c.self.inside.begun c.self.inside.s c.self.inside.t in
+    let a = parts c.self.inside.method c.self.inside.kernel c.self.inside.kinds c.self.inside.ram c.self.inside.program c.self.inside.config c.self.inside.current c.self.inside.frames c.self.inside.later c.self.inside.looks c.self.inside.begun c.self.inside.s c.self.inside.t in
     let fs = a.frames.frames in
     let f : FrameRecord = top_of fs in
     let below = drop 1 fs in
@@ -53,7 +53,7 @@ returns-clause-line g c =
 
 pub returns-clause-machine : goal.returns-clause-machine
 returns-clause-machine g c =
-    let a = parts c.self.inside.method c.self.inside.kernel c.self.inside.kinds c.self.inside.ram c.self.inside.program c.self.inside.config c.self.inside.current c.self.inside.frames c.self.inside.later c.self.inside.begun c.self.inside.s c.self.inside.t in
+    let a = parts c.self.inside.method c.self.inside.kernel c.self.inside.kinds c.self.inside.ram c.self.inside.program c.self.inside.config c.self.inside.current c.self.inside.frames c.self.inside.later c.self.inside.looks c.self.inside.begun c.self.inside.s c.self.inside.t in
     let fs = a.frames.frames in
     let f : FrameRecord = top_of fs in
     let below = drop 1 fs in
