@@ -5,7 +5,7 @@ use Rattle.std.specs.List.{list_all}
 use Rattle.std.specs.Str.{bytes_eq}
 use Rattle.std.specs.Fmt.{digits}
 use Rattle.program_model.specs.declared.causes.CaseCause.{CaseCause}
-use Rattle.program_model.specs.declared.causes.CaseCause.TheVariants.{BadByte, NumberTooLarge, OfText, OfImage, OfInjection, Look}
+use Rattle.program_model.specs.declared.causes.CaseCause.TheVariants.{BadByte, NumberTooLarge, OfText, OfImage, OfInjection}
 use Rattle.rv32_asm.specs.declared.causes.AsmCause.TheVariants as asm
 use Rattle.app_image.specs.declared.causes.ImageCause.TheVariants as image
 use Rattle.inject_list.specs.declared.causes.InjectCause.TheVariants as inject
@@ -71,4 +71,3 @@ has_meaning (OfInjection inject.TooManyWords) = omega arith
 has_meaning (OfInjection inject.TooMany) = omega arith
 has_meaning (OfInjection inject.NoList) = omega arith
 has_meaning (OfInjection inject.LateMoment) = omega arith
-has_meaning Look = omega arith

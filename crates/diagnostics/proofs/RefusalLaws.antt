@@ -8,7 +8,7 @@ use Rattle.std.proofs.lemmas.Str.Parse.{digit_from_value}
 use Rattle.std.specs.Fmt.{digits}
 use Rattle.std.specs.Str.Parse.{AllDigits}
 use Rattle.program_model.specs.declared.causes.CaseCause.{CaseCause}
-use Rattle.program_model.specs.declared.causes.CaseCause.TheVariants.{BadByte, NumberTooLarge, OfText, OfImage, OfInjection, Look}
+use Rattle.program_model.specs.declared.causes.CaseCause.TheVariants.{BadByte, NumberTooLarge, OfText, OfImage, OfInjection}
 use Rattle.rv32_asm.specs.declared.causes.AsmCause.TheVariants as asm
 use Rattle.app_image.specs.declared.causes.ImageCause.TheVariants as image
 use Rattle.inject_list.specs.declared.causes.InjectCause.TheVariants as inject
@@ -83,7 +83,6 @@ name_word (OfInjection inject.TooManyWords) = refl
 name_word (OfInjection inject.TooMany) = refl
 name_word (OfInjection inject.NoList) = refl
 name_word (OfInjection inject.LateMoment) = refl
-name_word Look = refl
 
 -- what stands behind the number of the line
 abbrev behind_line : CaseCause → List ℕ

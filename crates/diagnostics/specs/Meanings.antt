@@ -38,13 +38,12 @@ meanings =
     (codes "I14", codes "there is no code") ∷
     (codes "I15", codes "a bad name or an unknown kind of object in the binary image") ∷
     (codes "I16", codes "the binary image has an unknown version, a count above its limit, a field that must be 0, or too few bytes") ∷
-    (codes "J1", codes "the words are no form of a line of interrupts") ∷
+    (codes "J1", codes "the words are no form of a line of interrupts or looks") ∷
     (codes "J2", codes "no vector of this number is declared") ∷
     (codes "J3", codes "more than four words") ∷
     (codes "J4", codes "the 16,385th line of interrupts and looks") ∷
     (codes "J5", codes "a look at a name that is no semaphore, queue, flag group or mutex, or at a priority above 63") ∷
     (codes "J6", codes "a moment above 1,000,000 task steps") ∷
-    (codes "X3", codes "a look, which this program does not serve yet") ∷
     []
 
 -- the meaning of a name in a table; nothing where the table does not have it

@@ -3,7 +3,7 @@
 ghost use Rattle.std.specs.Prelude.{◌≡◌, ◌≤◌, length, map};
 ghost use Rattle.diagnostics.specs.Meanings.{meaning, meaning_in, row_of};
 
-static MEANINGS: [(&[u8], &[u8]); 39] = [
+static MEANINGS: [(&[u8], &[u8]); 38] = [
     (
         b"L1",
         b"a byte that begins no token, or a letter directly behind a number",
@@ -75,7 +75,10 @@ static MEANINGS: [(&[u8], &[u8]); 39] = [
         b"I16",
         b"the binary image has an unknown version, a count above its limit, a field that must be 0, or too few bytes",
     ),
-    (b"J1", b"the words are no form of a line of interrupts"),
+    (
+        b"J1",
+        b"the words are no form of a line of interrupts or looks",
+    ),
     (b"J2", b"no vector of this number is declared"),
     (b"J3", b"more than four words"),
     (b"J4", b"the 16,385th line of interrupts and looks"),
@@ -84,7 +87,6 @@ static MEANINGS: [(&[u8], &[u8]); 39] = [
         b"a look at a name that is no semaphore, queue, flag group or mutex, or at a priority above 63",
     ),
     (b"J6", b"a moment above 1,000,000 task steps"),
-    (b"X3", b"a look, which this program does not serve yet"),
 ];
 
 // The meaning of a name in a table; nothing where the table does not have it.

@@ -17,8 +17,8 @@ fn a_refusal_is_told_with_its_place_and_meaning(rt: HostRuntime) -> Result<(), F
             "line 4194304: A10: more than 16,384 words of code\n",
         ),
         (
-            "refused 10 X3\n",
-            "line 10: X3: a look, which this program does not serve yet\n",
+            "refused 10 J5\n",
+            "line 10: J5: a look at a name that is no semaphore, queue, flag group or mutex, or at a priority above 63\n",
         ),
     ] {
         let mut sink = MemSink::new(rt.alloc(), 200, Vec::new(rt.alloc())).map_err(|_| AllocError)?;

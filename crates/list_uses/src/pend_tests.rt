@@ -67,7 +67,7 @@ fn link_by_link<L: Links>(rt: &impl Abort, links: L)
     pend.link_forward(node, after);
     reads(rt, &pend, ObjId(63), &[4], &[]);
     assert_eq!(rt; (pend.successor(575), pend.predecessor(575)), (33, 575));
-    pend.link_back(node, after);
+    pend.link_back(node);
     reads(rt, &pend, ObjId(63), &[4], &[4]);
     assert_eq!(rt; pend.object_of(node), ObjId(63));
     pend.move_prio(node, Prio(0), &prios);

@@ -9,7 +9,7 @@ use Rattle.rv32_asm.specs.Steps.{empty_image}
 use Rattle.rv32_asm.specs.Assembled.{assembled}
 use Rattle.rv32_asm.specs.Assembly as asm
 use Rattle.inject_list.specs.Lists.{no_injections}
-use Rattle.program_model.specs.Case.{Case, Accepts, any_list, looks_refused, with_tokens, is_image, checked_case, assembled_case, text_case, image_case, input_case}
+use Rattle.program_model.specs.Case.{Accepts, with_tokens, is_image, checked_case, assembled_case, text_case, image_case, case_of}
 use Rattle.rv32_listing.specs.Disassembly.{disassembly}
 use Rattle.listing_law.specs.Law.{AssemblesBack, EveryListingAssemblesBack}
 use Rattle.listing_law.proofs.Parts.{flat}
@@ -47,27 +47,25 @@ module _ (image : ImageRecord) (v : IsValidImage image) (w : HasWords image) whe
   gives : assembled text tokens ≡ asm.Gives (lined_raw given.objects given.tasks given.vectors given.settings image) (length tokens)
   gives = assembled_text (items_of image) (listed_sound image v w) ∙ ap (λ raw. asm.Gives raw (length tokens)) given.same
 
-  module _ (last : List ℕ → List Token → ImageRecord → Case) (accepts : last text [] lined ≡ Accepts lined no_injections) where
-    text_accepted : text_case last text ≡ Accepts lined no_injections
-    unfolding text_case
-    text_accepted =
-        ap (with_tokens (λ ts. assembled_case last text ts (assembled text ts))) (lexed_items (items_of image) (listed_fit image v w))
-        ∙ (ap (assembled_case last text tokens) gives
-        ∙ (ap (λ ts. checked_case last text ts (checked (lined_raw given.objects given.tasks given.vectors given.settings image))) (drop_whole tokens)
-        ∙ (ap (checked_case last text []) (lined_checked given.objects given.tasks given.vectors given.settings image v) ∙ accepts)))
+  text_accepted : text_case text ≡ Accepts lined no_injections
+  unfolding text_case
+  text_accepted =
+      ap (with_tokens (λ ts. assembled_case text ts (assembled text ts))) (lexed_items (items_of image) (listed_fit image v w))
+      ∙ (ap (assembled_case text tokens) gives
+      ∙ (ap (λ ts. checked_case text ts (checked (lined_raw given.objects given.tasks given.vectors given.settings image))) (drop_whole tokens)
+      ∙ ap (checked_case text []) (lined_checked given.objects given.tasks given.vectors given.settings image v)))
 
-    input_accepted : input_case last (disassembly image) ≡ Accepts lined no_injections
-    unfolding input_case
-    input_accepted =
-        ap (λ b. if b then image_case last (disassembly image) else text_case last (disassembly image)) (no_image image)
-        ∙ (ap (text_case last) (sym (listed_text image)) ∙ text_accepted)
+  accepted : case_of (disassembly image) ≡ Accepts lined no_injections
+  unfolding case_of
+  accepted =
+      ap (λ b. if b then image_case (disassembly image) else text_case (disassembly image)) (no_image image)
+      ∙ (ap text_case (sym (listed_text image)) ∙ text_accepted)
 
   pub assembles_back : AssemblesBack image
   assembles_back = record {
     lined = lined;
     same = lined_same given.objects given.tasks given.vectors image;
-    case = input_accepted any_list refl;
-    case_so_far = input_accepted looks_refused refl;
+    case = accepted;
     short = listing_short image v w;
   }
 

@@ -4,7 +4,7 @@ use Rattle.app_image.specs.Image.{ImageRecord, IsValidImage}
 use Rattle.app_image.specs.Layout.{HasWords}
 use Rattle.app_image.specs.RoundTrip.{unlined}
 use Rattle.inject_list.specs.Lists.{no_injections}
-use Rattle.program_model.specs.Case.{Accepts, case_of, whole_case}
+use Rattle.program_model.specs.Case.{Accepts, case_of}
 use Rattle.program_model.specs.Limits.{longest_input}
 use Rattle.rv32_listing.specs.Disassembly.{disassembly}
 
@@ -13,8 +13,7 @@ use Rattle.rv32_listing.specs.Disassembly.{disassembly}
 pub record AssemblesBack (image : ImageRecord) : Type 0 where
   pub lined : ImageRecord
   pub same : unlined lined ≡ unlined image
-  pub case : whole_case (disassembly image) ≡ Accepts lined no_injections
-  pub case_so_far : case_of (disassembly image) ≡ Accepts lined no_injections
+  pub case : case_of (disassembly image) ≡ Accepts lined no_injections
   pub short : length (disassembly image) ≤ longest_input
 
 -- the listing of every valid image does

@@ -1,7 +1,7 @@
 -- The case that an input is: an image and a list of injections, or its first refusal. A text is read into tokens, assembled
 -- and checked, and then its injections are read; of a binary image the layout is read first, then the tokens behind it, then
 -- it is checked, and its injections come last. The first stage with a refusal decides.
-use Rattle.std.specs.Prelude.{ℕ, List, [], ◌∷◌, take, drop, codes, Bool, false, Option, Some, None, Result, Ok, Err, if◌then◌else◌}
+use Rattle.std.specs.Prelude.{ℕ, List, take, drop, Bool, Result, Ok, Err, if◌then◌else◌}
 use Rattle.std.specs.Str.{bytes_eq}
 use Rattle.text_lex.specs.declared.Token.{Token}
 use Rattle.text_lex.specs.Tokens.{Lexed, Tokens, BadByteAt, TooLargeAt, lexed}
@@ -17,11 +17,10 @@ use Rattle.rv32_asm.specs.Assembled.{assembled}
 use Rattle.rv32_asm.specs.Assembly.{Assembly}
 use Rattle.rv32_asm.specs.Assembly as asm
 use Rattle.inject_list.specs.Lists.{ListRecord}
-use Rattle.inject_list.specs.Pieces.{Piece, Word, piece_of, lines}
 use Rattle.inject_list.specs.Stage.{Reading, injections_in}
 use Rattle.inject_list.specs.Stage as inject
 use Rattle.program_model.specs.declared.causes.CaseCause.{CaseCause}
-use Rattle.program_model.specs.declared.causes.CaseCause.TheVariants.{BadByte, NumberTooLarge, OfText, OfImage, OfInjection, Look}
+use Rattle.program_model.specs.declared.causes.CaseCause.TheVariants.{BadByte, NumberTooLarge, OfText, OfImage, OfInjection}
 
 -- a case with this image and this list, or one that is refused at a line for a cause
 pub data Case : Type 0 where
@@ -35,29 +34,9 @@ abbrev pub with_list : ImageRecord → Reading → Case
 with_list image (inject.Gives l) = Accepts image l
 with_list image (inject.Refuses line cause) = Refuses line (OfInjection cause)
 
--- every list
-abbrev pub any_list : List ℕ → List Token → ImageRecord → Case
-any_list text tokens image = with_list image (injections_in text tokens image)
-
--- Looks, which are not built: a case that is else accepted is refused at the line of its first look.
-
--- whether a line with this first piece is a look
-abbrev pub is_look : Piece → Bool
-is_look (Word name) = bytes_eq name (codes "look")
-is_look piece = false
-
--- the line of the first look
-abbrev pub first_look : List ℕ → List (List Token) → Option ℕ
-first_look text [] = None
-first_look text ([] ∷ rest) = first_look text rest
-first_look text ((t ∷ ts) ∷ rest) = if is_look (piece_of text t) then Some t.line else first_look text rest
-
-abbrev pub unless_look : Option ℕ → Case → Case
-unless_look (Some line) (Accepts image l) = Refuses line Look
-unless_look look case = case
-
-abbrev pub looks_refused : List ℕ → List Token → ImageRecord → Case
-looks_refused text tokens image = unless_look (first_look text (lines tokens)) (any_list text tokens image)
+-- the case of a checked image
+abbrev pub listed_case : List ℕ → List Token → ImageRecord → Case
+listed_case text tokens image = with_list image (injections_in text tokens image)
 
 -- The stages, last one first.
 
@@ -76,43 +55,33 @@ with_tokens rest (TooLargeAt place line) = Refuses line NumberTooLarge
 abbrev pub is_image : List ℕ → Bool
 is_image input = bytes_eq (take 4 input) magic
 
--- `last`: what comes of the injections of an image
-module _ (last : List ℕ → List Token → ImageRecord → Case) where
-  -- what comes of a checked image, and of the text and its tokens for injections
-  abbrev pub checked_case : List ℕ → List Token → Result ImageRecord ImageError → Case
-  checked_case text tokens (Ok image) = last text tokens image
-  checked_case text tokens (Err error) = refused_image error
+-- what comes of a check, and of the text and its tokens for injections
+abbrev pub checked_case : List ℕ → List Token → Result ImageRecord ImageError → Case
+checked_case text tokens (Ok image) = listed_case text tokens image
+checked_case text tokens (Err error) = refused_image error
 
-  -- what comes of an assembled text: the tokens behind those that were used are for injections
-  abbrev pub assembled_case : List ℕ → List Token → Assembly → Case
-  assembled_case text tokens (asm.Gives raw used) = checked_case text (drop used tokens) (checked raw)
-  assembled_case text tokens (asm.Refuses line cause) = Refuses line (OfText cause)
+-- what comes of an assembled text: the tokens behind those that were used are for injections
+abbrev pub assembled_case : List ℕ → List Token → Assembly → Case
+assembled_case text tokens (asm.Gives raw used) = checked_case text (drop used tokens) (checked raw)
+assembled_case text tokens (asm.Refuses line cause) = Refuses line (OfText cause)
 
-  -- what a text is
-  unfoldable pub text_case : List ℕ → Case
-  text_case text = with_tokens (λ tokens. assembled_case text tokens (assembled text tokens)) (lexed text)
+-- what a text is
+unfoldable pub text_case : List ℕ → Case
+text_case text = with_tokens (λ tokens. assembled_case text tokens (assembled text tokens)) (lexed text)
 
-  -- what comes of an image and the text behind it, which has only injections; its lines are counted from 1
-  abbrev pub behind_image : List ℕ → RawRecord → Case
-  behind_image text raw = with_tokens (λ tokens. checked_case text tokens (checked raw)) (lexed text)
+-- what comes of an image and the text behind it, which has only injections; its lines are counted from 1
+abbrev pub behind_image : List ℕ → RawRecord → Case
+behind_image text raw = with_tokens (λ tokens. checked_case text tokens (checked raw)) (lexed text)
 
-  -- what comes of an image of so many bytes at the front of an input
-  abbrev pub read_case : List ℕ → Result (RawRecord × ℕ) ImageError → Case
-  read_case input (Ok (raw, size)) = behind_image (drop size input) raw
-  read_case input (Err error) = refused_image error
+-- what comes of an image of so many bytes at the front of an input
+abbrev pub read_case : List ℕ → Result (RawRecord × ℕ) ImageError → Case
+read_case input (Ok (raw, size)) = behind_image (drop size input) raw
+read_case input (Err error) = refused_image error
 
-  -- what an input is that begins as an image
-  unfoldable pub image_case : List ℕ → Case
-  image_case input = read_case input (image_in input)
-
-  -- what an input is
-  unfoldable pub input_case : List ℕ → Case
-  input_case input = if is_image input then image_case input else text_case input
+-- what an input is that begins as an image
+unfoldable pub image_case : List ℕ → Case
+image_case input = read_case input (image_in input)
 
 -- the case that an input is
-abbrev pub whole_case : List ℕ → Case
-whole_case input = input_case any_list input
-
--- the case that an input is for the program so far, which refuses looks
-abbrev pub case_of : List ℕ → Case
-case_of input = input_case looks_refused input
+unfoldable pub case_of : List ℕ → Case
+case_of input = if is_image input then image_case input else text_case input

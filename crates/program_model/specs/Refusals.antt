@@ -4,17 +4,15 @@ use Rattle.app_image.specs.CauseNumbers as image
 use Rattle.rv32_asm.specs.Refusal as asm
 use Rattle.inject_list.specs.Stage as inject
 use Rattle.program_model.specs.declared.causes.CaseCause.{CaseCause}
-use Rattle.program_model.specs.declared.causes.CaseCause.TheVariants.{BadByte, NumberTooLarge, OfText, OfImage, OfInjection, Look}
+use Rattle.program_model.specs.declared.causes.CaseCause.TheVariants.{BadByte, NumberTooLarge, OfText, OfImage, OfInjection}
 
--- the letter of the stage that refuses: L for the tokens, A for the assembler, I for the image, J for the injections, X for
--- what is not built
+-- the letter of the stage that refuses: L for the tokens, A for the assembler, I for the image, J for the injections
 abbrev pub letter : CaseCause → List ℕ
 letter BadByte = codes "L"
 letter NumberTooLarge = codes "L"
 letter (OfText cause) = codes "A"
 letter (OfImage cause) = codes "I"
 letter (OfInjection cause) = codes "J"
-letter Look = codes "X"
 
 -- the number of the cause in its stage
 abbrev pub number : CaseCause → ℕ
@@ -23,7 +21,6 @@ number NumberTooLarge = 2
 number (OfText cause) = asm.cause_number cause
 number (OfImage cause) = image.cause_number cause
 number (OfInjection cause) = inject.cause_number cause
-number Look = 3
 
 -- the line that refuses a case, as `refused 3 A5`
 unfoldable pub refusal_line : ℕ → CaseCause → List ℕ

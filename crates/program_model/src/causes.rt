@@ -18,6 +18,4 @@ pub enum CaseCause {
     OfImage(ImageCause),
     /// J1 to J6: a line behind `.inject`, or behind a binary image, is no injection of the image.
     OfInjection(InjectCause),
-    /// X3: a line is a look, which is not built.
-    Look,
 }

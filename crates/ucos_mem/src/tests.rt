@@ -3,6 +3,8 @@ mod cases;
 mod deferred;
 mod generated;
 mod interrupts;
+mod looks;
+mod objects;
 
 use outside::{MemSink, MemSource};
 use std::alloc::{AllocError, Global};

@@ -5,7 +5,6 @@ pub mod CountLaws
 pub mod Digits
 pub mod HeldLaws
 pub mod HistoryLaws
-pub mod LookLaws
 pub mod RowLemmas
 pub mod TextLaws
 pub mod TopLemmas

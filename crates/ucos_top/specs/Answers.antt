@@ -1,9 +1,9 @@
 -- What the reading of a case answers.
-use Rattle.std.specs.Prelude.{◌≡◌, ◌≤◌, ◌+◌, ℕ, List, [], length, drop, Result, Ok, Err}
+use Rattle.std.specs.Prelude.{◌≡◌, ℕ, List, drop, Result, Ok, Err}
 use Rattle.text_lex.specs.declared.Token.{Token}
 use Rattle.text_lex.specs.Tokens.{Lexed, Tokens, lexed}
 use Rattle.app_image.specs.Image.{ImageRecord}
-use Rattle.inject_list.specs.Lists.{ListRecord, IsValidList}
+use Rattle.inject_list.specs.Lists.{ListRecord}
 use Rattle.program_model.specs.Case.{Case, Accepts, Refuses, with_tokens}
 use Rattle.ucos_top.specs.declared.causes.CaseError.{CaseError}
 use Rattle.ucos_top.specs.declared.causes.CaseError.TheVariants.{NoMemory, At}
@@ -25,12 +25,3 @@ IsFaultOf error reading = (rest : List Token → Case) → IsRefusal error (with
 -- these tokens are those of the text from some token on
 abbrev pub AreRestOf : List ℕ → List Token → Type 0
 AreRestOf text tokens = (all : List Token) × (used : ℕ) × (lexed text ≡ Tokens all) × (tokens ≡ drop used all)
-
--- the token lies inside the text
-abbrev pub IsInside : List ℕ → Token → Type 0
-IsInside text t = t.start + t.len ≤ length text
-
--- a list that an image can be run with: it has no looks
-pub record IsToRun (image : ImageRecord) (l : ListRecord) : Type 0 where
-  pub valid : IsValidList image l
-  pub no_looks : l.looks ≡ []

@@ -12,7 +12,6 @@ ghost use Rattle.machine_model.specs.Premises.{premises, premise_line, premise_l
 ghost use Rattle.program_model.specs.Both.{run_of, both_text, raw_line};
 ghost use Rattle.program_model.specs.Answer.{compared, compared_status};
 ghost use Rattle.program_model.specs.Limits.{most_task_steps};
-ghost use Rattle.ucos_top.specs.Answers.{IsToRun};
 ghost use Rattle.ucos_top.specs.Told.{IsRun, WritesOneHistory, AreToldAlike};
 
 use crate::history::write_history;
@@ -146,7 +145,7 @@ pub fn compare<K: Sink>(
     sink: &mut K,
 ) -> Status
     requires count { count ≤ most_task_steps }
-    requires to_run { IsToRun image.now list.now }
+    requires list { IsValidList image.now list.now }
     ensures own { (result ≡ Status.NoMemory) ⊎ ((result ≡ Status.WriteFault) ⊎ ((result ≡ Status.Done) ⊎ (result ≡ Status.Broken))) }
     ensures status { (result ≡ Status.NoMemory) ⊎ ((result ≡ Status.WriteFault) ⊎ (result ≡ compared_status image.now list.now count)) }
     ensures is_run { IsRun (compared_status image.now list.now count) }

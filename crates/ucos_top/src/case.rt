@@ -1,15 +1,14 @@
 // The case that an input is.
 
-ghost use Rattle.std.specs.Prelude.{◌≡◌, ◌≤◌, ◌+◌, [], All, take, length, IfOk, IfErr};
+ghost use Rattle.std.specs.Prelude.{◌≡◌, ◌≤◌, take, length, IfOk, IfErr};
 ghost use Rattle.text_lex.specs.Tokens.{lexed, Tokens};
 ghost use Rattle.app_image.specs.Layout.{magic};
 ghost use Rattle.app_image.specs.Raw.{IsMade};
 ghost use Rattle.app_image.specs.Refusal.{checked};
 ghost use Rattle.app_image.specs.Image.{IsValidImage};
 ghost use Rattle.inject_list.specs.Lists.{IsValidList};
-ghost use Rattle.inject_list.specs.Pieces.{is_end, lines, piece_of};
-ghost use Rattle.ucos_top.specs.Answers.{AreRestOf, IsFaultOf, IsInside, IsToRun, Tells};
-ghost use Rattle.program_model.specs.Case.{case_of, checked_case, first_look, image_case, is_look, looks_refused, text_case};
+ghost use Rattle.ucos_top.specs.Answers.{AreRestOf, IsFaultOf, Tells};
+ghost use Rattle.program_model.specs.Case.{case_of, checked_case, image_case, listed_case, text_case};
 ghost use Rattle.program_model.specs.Limits.{longest_input};
 
 use crate::causes::CaseError;
@@ -18,16 +17,16 @@ use inject_list::{InjectError, InjectList, read};
 use program_model::CaseCause;
 use rv32_asm::{AsmError, assemble};
 use std::alloc::Global;
-use text_lex::{LexError, Token, TokenKind, slice, tokens};
+use text_lex::{LexError, Token, tokens};
 
 /// The case that an input is: the image of a text and the injections behind its line `.inject`, or a
-/// binary image and the injections behind it. No case has a look.
-#[tactic(auto, unfolding(program_model::specs::Case::input_case))]
+/// binary image and the injections behind it.
+#[tactic(auto, unfolding(program_model::specs::Case::case_of))]
 pub fn read_case(alloc: Global, input: &[u8]) -> Result<(Image, InjectList), CaseError>
     requires { length input.now ≤ longest_input }
     ensures case { Tells result (case_of input.now) }
     ensures valid { IfOk result (λ c. IsValidImage c.0) }
-    ensures to_run { IfOk result (λ c. IsToRun c.0 c.1) }
+    ensures list { IfOk result (λ c. IsValidList c.0 c.1) }
 {
     if input.starts_with(b"UC3I") {
         read_binary(alloc, input)
@@ -40,9 +39,9 @@ pub fn read_case(alloc: Global, input: &[u8]) -> Result<(Image, InjectList), Cas
 #[tactic(auto, using(crate::proofs::UsedLaws::used_few), unfolding(program_model::specs::Case::text_case))]
 fn read_text(alloc: Global, text: &[u8]) -> Result<(Image, InjectList), CaseError>
     requires { length text.now ≤ longest_input }
-    ensures case { Tells result (text_case looks_refused text.now) }
+    ensures case { Tells result (text_case text.now) }
     ensures valid { IfOk result (λ c. IsValidImage c.0) }
-    ensures to_run { IfOk result (λ c. IsToRun c.0 c.1) }
+    ensures list { IfOk result (λ c. IsValidList c.0 c.1) }
 {
     let tokens = read_tokens(alloc, text)?;
     match assemble(alloc, text, &tokens) {
@@ -57,9 +56,9 @@ fn read_text(alloc: Global, text: &[u8]) -> Result<(Image, InjectList), CaseErro
 fn read_binary(alloc: Global, input: &[u8]) -> Result<(Image, InjectList), CaseError>
     requires image { take 4 input.now ≡ magic }
     requires short { length input.now ≤ longest_input }
-    ensures case { Tells result (image_case looks_refused input.now) }
+    ensures case { Tells result (image_case input.now) }
     ensures valid { IfOk result (λ c. IsValidImage c.0) }
-    ensures to_run { IfOk result (λ c. IsToRun c.0 c.1) }
+    ensures list { IfOk result (λ c. IsValidList c.0 c.1) }
 {
     match read_image(alloc, input) {
         Ok((raw, size)) => {
@@ -97,9 +96,9 @@ fn check_case(
 ) -> Result<(Image, InjectList), CaseError>
     requires made { IsMade raw }
     requires rest { AreRestOf text.now tokens.now }
-    ensures case { Tells result (checked_case looks_refused text.now tokens.now (checked raw)) }
+    ensures case { Tells result (checked_case text.now tokens.now (checked raw)) }
     ensures valid { IfOk result (λ c. IsValidImage c.0) }
-    ensures to_run { IfOk result (λ c. IsToRun c.0 c.1) }
+    ensures list { IfOk result (λ c. IsValidList c.0 c.1) }
 {
     match check(raw) {
         Ok(image) => inject(alloc, image, text, tokens),
@@ -117,48 +116,15 @@ fn inject(
 ) -> Result<(Image, InjectList), CaseError>
     requires valid { IsValidImage image }
     requires rest { AreRestOf text.now tokens.now }
-    ensures case { Tells result (looks_refused text.now tokens.now image) }
+    ensures case { Tells result (listed_case text.now tokens.now image) }
     ensures valid { IfOk result (λ c. IsValidImage c.0) }
-    ensures to_run { IfOk result (λ c. IsToRun c.0 c.1) }
+    ensures list { IfOk result (λ c. IsValidList c.0 c.1) }
 {
     match read(alloc, text, tokens, &image) {
-        Ok(list) => match first_look(text, tokens) {
-            None => Ok((image, list)),
-            Some(line) => Err(CaseError::At(line, CaseCause::Look)),
-        },
+        Ok(list) => Ok((image, list)),
         Err(InjectError::NoMemory) => Err(CaseError::NoMemory),
         Err(InjectError::At(line, cause)) => {
             Err(CaseError::At(line, CaseCause::OfInjection(cause)))
         }
     }
-}
-
-// The line of the first look.
-fn first_look(text: &[u8], tokens: &[Token]) -> Option<u32>
-    requires { All (IsInside text.now) tokens.now }
-    ensures { result ≡ first_look text.now (lines tokens.now) }
-{
-    let mut begun = false;
-    for token in tokens {
-        if !begun && is_look(text, token) {
-            return Some(token.line);
-        }
-        begun = !is_end(token.kind);
-    }
-    None
-}
-
-// Whether a line that begins with this token is a look.
-fn is_look(text: &[u8], token: &Token) -> bool
-    requires { IsInside text.now token.now }
-    ensures { result ≡ is_look (piece_of text.now token.now) }
-{
-    matches!(token.kind, TokenKind::Name) && slice(text, token) == b"look".as_slice()
-}
-
-// Whether a token of this kind ends a line.
-fn is_end(kind: TokenKind) -> bool
-    ensures { result ≡ is_end kind }
-{
-    matches!(kind, TokenKind::End)
 }

@@ -66,7 +66,6 @@ fn letter(cause: CaseCause) -> u8
         CaseCause::OfText(_) => b'A',
         CaseCause::OfImage(_) => b'I',
         CaseCause::OfInjection(_) => b'J',
-        CaseCause::Look => b'X',
     }
 }
 
@@ -80,7 +79,6 @@ fn number(cause: CaseCause) -> u32
         CaseCause::OfText(cause) => text_number(cause),
         CaseCause::OfImage(cause) => u32::from(cause.number()),
         CaseCause::OfInjection(cause) => injection_number(cause),
-        CaseCause::Look => 3,
     }
 }
 

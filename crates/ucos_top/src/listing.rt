@@ -4,13 +4,15 @@ ghost use Rattle.std.specs.Prelude.{◌≡◌, ◌++◌, ◌+◌, ◌*◌, ◌/�
 ghost use Rattle.arrayvec.specs.ArrayVec.{array_vec_len};
 ghost use Rattle.outside.specs.Causes.{HasCause};
 ghost use Rattle.outside.specs.Written.{WritesPiece};
-ghost use Rattle.program_model.specs.Listing.{callback_word, code_line, hex_word, hex_digit, kind_words, listing, numbered, object_line, ram_line, spaced, task_line, timer_words, vector_line};
+ghost use Rattle.program_model.specs.Listing.{callback_word, code_line, kind_words, listing, numbered, object_line, ram_line, spaced, task_line, timer_words, vector_line};
+ghost use Rattle.rv32_listing.specs.Texts.{hex_word};
 
 use app_image::{Image, ObjDef, TaskDef, VectorDef};
 use arrayvec::ArrayVec;
 use itoa::Buffer;
 use kern_base::Kind;
 use outside::{Failed, Sink};
+use rv32_listing::hex_digits;
 
 // A line while it is made.
 type Line = ArrayVec<u8, 128>;
@@ -258,32 +260,4 @@ fn push_hex(line: &mut Line, word: u32)
     ensures len { array_vec_len line.new ≤ array_vec_len line.old + 9 }
 {
     push_word(line, &hex_digits(word));
-}
-
-// The eight hexadecimal digits of a word.
-fn hex_digits(word: u32) -> [u8; 8]
-    ensures { result ≡ hex_word word }
-{
-    [
-        hex_digit(word / 0x1000_0000),
-        hex_digit(word / 0x100_0000),
-        hex_digit(word / 0x10_0000),
-        hex_digit(word / 0x1_0000),
-        hex_digit(word / 0x1000),
-        hex_digit(word / 0x100),
-        hex_digit(word / 0x10),
-        hex_digit(word),
-    ]
-}
-
-// The last hexadecimal digit of a number.
-fn hex_digit(number: u32) -> u8
-    ensures { result ≡ hex_digit (number % 16) }
-{
-    let digit = (number % 16) as u8;
-    if digit < 10 {
-        b'0' + digit
-    } else {
-        b'a' - 10 + digit
-    }
 }

@@ -1,8 +1,8 @@
 // The machine of the program. Here alone it is said over which links its kernel runs: by number.
 
-ghost use Rattle.std.specs.Prelude.{◌≡◌, [], IfOk};
+ghost use Rattle.std.specs.Prelude.{◌≡◌, IfOk};
 ghost use Rattle.inject_list.specs.Lists.{IsValidList};
-ghost use Rattle.kern_model.specs.Services.{program_serves};
+ghost use Rattle.kern_model.specs.Served.{program_serves};
 ghost use Rattle.machine_model.specs.Machine.{start};
 ghost use Rattle.machine_laws.specs.Valid.{IsValidMachine};
 
@@ -22,7 +22,7 @@ const PEND_NODES: u16 = 576;
 /// The machine that the program runs.
 pub type ProgramMachine = Machine<IndexLinks>;
 
-/// The machine at the start of a run of this application by this method with these interrupts, and no look.
+/// The machine at the start of a run of this application by this method with these interrupts and looks.
 pub fn load(
     alloc: Global,
     image: &Image,
@@ -30,7 +30,6 @@ pub fn load(
     method: Method,
 ) -> Result<ProgramMachine, NoMemory>
     requires list { IsValidList image.now list.now }
-    requires no_look { list.now.looks ≡ [] }
     ensures method { IfOk result (λ m. m.method ≡ method) }
     ensures start { IfOk result (λ m. m.state ≡ start image.now list.now) }
     ensures valid { IfOk result (λ m. IsValidMachine program_serves m.method m.state) }

@@ -14,7 +14,6 @@ ghost use Rattle.program_model.specs.Generated.{generated, steps_for};
 ghost use Rattle.program_model.specs.Limits.{longest_input, most_lines, most_task_steps};
 ghost use Rattle.program_model.specs.Listing.{spaced};
 ghost use Rattle.program_model.specs.Summary.{counted_line, first_line, summary};
-ghost use Rattle.ucos_top.specs.Answers.{IsToRun};
 ghost use Rattle.ucos_top.specs.Counted.{IsCountOf, IsFew, most_events};
 ghost use Rattle.ucos_top.specs.Told.{IsRun, SumsOneHistory};
 
@@ -141,7 +140,7 @@ pub fn summarize<K: Sink>(
     sink: &mut K,
 ) -> Status
     requires size { size ≤ most_lines }
-    requires to_run { IsToRun image.now list.now }
+    requires list { IsValidList image.now list.now }
     ensures own { (result ≡ Status.NoMemory) ⊎ ((result ≡ Status.WriteFault) ⊎ ((result ≡ Status.Done) ⊎ (result ≡ Status.Broken))) }
     ensures status { (result ≡ Status.NoMemory) ⊎ ((result ≡ Status.WriteFault) ⊎ (result ≡ compared_status image.now list.now (steps_for size))) }
     ensures is_run { IsRun (compared_status image.now list.now (steps_for size)) }

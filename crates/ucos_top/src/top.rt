@@ -2,9 +2,9 @@ ghost use Rattle.std.specs.Prelude.{◌≡◌, ◌≢◌, ◌⊎◌, ◌≤◌, 
 ghost use Rattle.std.specs.Io.KnownBytes.{Appends};
 ghost use Rattle.outside.specs.Causes.{Rose, DidNotRise};
 ghost use Rattle.outside.specs.Written.{AppendsPrefix};
+ghost use Rattle.inject_list.specs.Lists.{IsValidList};
 ghost use Rattle.program_model.specs.Words.{command_of, texts};
 ghost use Rattle.program_model.specs.Answer.{accepted_status, accepted_text, case_answer, defined, printed, Reads, TakesMemory};
-ghost use Rattle.ucos_top.specs.Answers.{IsToRun};
 ghost use Rattle.program_model.specs.Case.{Accepts, case_of};
 ghost use Rattle.program_model.specs.Generated.{generated};
 ghost use Rattle.program_model.specs.Refusals.{refusal_line};
@@ -178,7 +178,7 @@ fn run<K: Sink>(
     sink: &mut K,
 ) -> Status
     requires within { IsCaseWithinLimit command }
-    requires to_run { IsToRun image.now list.now }
+    requires list { IsValidList image.now list.now }
     ensures own { (result ≡ Status.NoMemory) ⊎ ((result ≡ Status.WriteFault) ⊎ ((result ≡ Status.Done) ⊎ (result ≡ Status.Broken))) }
     ensures status { (result ≡ Status.NoMemory) ⊎ ((result ≡ Status.WriteFault) ⊎ (result ≡ accepted_status command image.now list.now)) }
     ensures is_run { IsRun (accepted_status command image.now list.now) }
@@ -223,7 +223,7 @@ fn run_case<K: Sink>(
     sink: &mut K,
 ) -> Status
     requires count { count ≤ most_task_steps }
-    requires to_run { IsToRun image.now list.now }
+    requires list { IsValidList image.now list.now }
     ensures own { (result ≡ Status.NoMemory) ⊎ ((result ≡ Status.WriteFault) ⊎ (result ≡ Status.Done)) }
     ensures sink_count { K.faults sink.old ≤ K.faults sink.new }
     ensures no_memory { result ≡ Status.NoMemory → sink.new ≡ sink.old }

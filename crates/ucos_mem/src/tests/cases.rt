@@ -287,13 +287,23 @@ const REFUSED: [(&str, &str); 22] = [
     ),
 ];
 
+// What the first text's image prints to eight task steps with a look at its semaphore.
+const FIRST_SEEN_TO_8: &str = "0 0 start a
+1 1 look s fwd back
+2 2 call a OSSemPost 0 0
+4 2 ret a OSSemPost OS_ERR_NONE 1
+7 5 call a OSSemPend 0 1 0
+9 5 ret a OSSemPend OS_ERR_NONE 0
+12 8 end
+";
+
 // A word of the first text's image by its place, what it is changed to, a text behind the image, and
 // what a run to eight task steps prints.
 const IMAGES: [(usize, u32, &str, &str); 15] = [
     (1, 2, "", FIRST_TO_8),
     (1, 2, "\n \t# no injections\n", FIRST_TO_8),
     (1, 2, "\n# one\n\ntask 1, 3\n", "refused 4 J2\n"),
-    (1, 2, "\nlook 1, s\n", "refused 2 X3\n"),
+    (1, 2, "\nlook 1, s\n", FIRST_SEEN_TO_8),
     (1, 2, "UC3I", "refused 1 J1\n"),
     (1, 3, "@", "refused 0 I16\n"),
     (1, 0x1_0002, "", "refused 0 I16\n"),

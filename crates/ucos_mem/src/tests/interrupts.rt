@@ -252,9 +252,9 @@ const BEHIND_INJECT: [(&str, &str); 22] = [
     ("look 6, a", "refused 14 J5\n"),
     ("look 6, 64", "refused 14 J5\n"),
     ("task 1000001, 3", "refused 14 J6\n"),
-    ("look 6, s", "refused 14 X3\n"),
-    ("look 6, 63", "refused 14 X3\n"),
-    ("task 6, 3\n\nlook 6, s\nlook 7, s\n", "refused 16 X3\n"),
+    ("look 6, s", "0 0 end\n"),
+    ("look 0, 63", "0 0 end\n"),
+    ("task 6, 3\n\nlook 6, s\nlook 7, s\n", "0 0 end\n"),
     ("task 6, 3 @", "refused 14 L1\n"),
 ];
 

@@ -2,7 +2,7 @@ use Rattle.std.proofs.Common.{◌≡◌, ◌++◌, ◌<◌, [], ◌∷◌, ap, �
 use Rattle.std.proofs.KnownBytes.{Appends-trans, Appends-nil}
 use Rattle.std.proofs.lemmas.Result.{err_from_is_err_and}
 use Rattle.outside.proofs.Known.{AppendsPrefix-after}
-use Rattle.kern_model.specs.Services.{program_serves}
+use Rattle.kern_model.specs.Served.{program_serves}
 use Rattle.machine_model.specs.Machine.{Machine}
 use Rattle.machine_model.specs.Rules.{next}
 use Rattle.machine_model.specs.Bound.{events_left}
@@ -78,7 +78,7 @@ returns-in_err-write-clause-bytes g c = λ list e.
     let state = c.running.machine.state in
     let at_end : state.t ≡ c.args.count = omega (arith, c.running-test.false, c.task_steps.ensures, c.running.invariant.within) in
     let all = told_all program_serves c.args.machine.method c.args.image.now list c.args.count front events state (told list e) at_end in
-    let last : c.as_slice.result.now ≡ end_history state.t = cc in
+    let last : c.as_slice.result.now ≡ end_history state.t = c.as_slice.ensures.value ∙ c.end_of_history-line.ensures ∙ ap end_history c.task_steps-2.ensures in
     let said = rw last at c.in_err-write.ensures.bytes in
     rw p.1 (AppendsPrefix-after (g.K.Sink.held c.args.sink.now) (g.K.Sink.held c.running.sink) (g.K.Sink.held c.write.new.self)
     front (end_history state.t) [] (history c.args.image.now (run program_serves c.args.machine.method c.args.image.now list c.args.count)) written said
@@ -92,7 +92,7 @@ returns-clause-bytes g c = λ list e.
     let state = c.running.machine.state in
     let at_end : state.t ≡ c.args.count = omega (arith, c.running-test.false, c.task_steps.ensures, c.running.invariant.within) in
     let all = told_all program_serves c.args.machine.method c.args.image.now list c.args.count front events state (told list e) at_end in
-    let last : c.as_slice.result.now ≡ end_history state.t = cc in
+    let last : c.as_slice.result.now ≡ end_history state.t = c.as_slice.ensures.value ∙ c.end_of_history-line.ensures ∙ ap end_history c.task_steps-2.ensures in
     let said = rw last at c.in_ok-write.ensures.bytes in
     rw all.text (Appends-trans _ _ _ front (end_history state.t) written said)
 
