@@ -4,6 +4,7 @@ use Rattle.std.specs.List.{find, list_any, All, AllPairs, AllByRecursion}
 use Rattle.std.specs.Option.{option_or, option_map}
 use Rattle.std.proofs.lemmas.Bool.{and_from, le-leb, lt-ltb, le-ltb, eq-eqb, ne_eqb, not_from_true, and_left, and_right, or_from}
 use Rattle.std.proofs.lemmas.List.Elements.{recursion_from_All, All-from_recursion, All-map}
+use Rattle.std.proofs.lemmas.List.{length-map}
 use Rattle.kern_base.specs.declared.kinds.Kind.{Kind}
 use Rattle.kern_base.specs.declared.kinds.Kind.TheVariants.{Sem, Queue, Flags, Mutex, OneShot, Periodic}
 use Rattle.app_image.specs.Addresses.{is_between, is_code_address, is_stack_pointer, IsCodeAddress, IsStackPointer}
@@ -72,7 +73,7 @@ found_none p line (x ∷ xs) h = ap (λ b. option_map line (cond b (Some x) (fin
 none_found : {X : Type 0} (p : X → Bool) (line : X → ℕ) (xs : List X) → All (λ x. p x ≡ false) xs → option_map line (find p xs) ≡ None
 none_found p line xs h = found_none p line xs (recursion_from_All (λ x. p x ≡ false) xs h)
 
-all_none : (a b c d : Option ℕ) → a ≡ None → b ≡ None → c ≡ None → d ≡ None → option_or a (option_or b (option_or c d)) ≡ None
+pub all_none : (a b c d : Option ℕ) → a ≡ None → b ≡ None → c ≡ None → d ≡ None → option_or a (option_or b (option_or c d)) ≡ None
 all_none a b c d p q r s = rw (p, q, r, s) refl
 
 -- no record has the cause
@@ -86,7 +87,7 @@ no_record cause raw ts os vs ss =
 later_none : (cause : ImageCause) (line : Option ℕ) (cs : List ImageCause) (raw : RawRecord) → line ≡ None → refusal_among cs raw ≡ None → refused_or cause line (refusal_among cs raw) ≡ None
 later_none cause line cs raw p q = rw (p, q) refl
 
-none_among : (cs : List ImageCause) (raw : RawRecord) → AllByRecursion (λ c. line_of c raw ≡ None) cs → refusal_among cs raw ≡ None
+pub none_among : (cs : List ImageCause) (raw : RawRecord) → AllByRecursion (λ c. line_of c raw ≡ None) cs → refusal_among cs raw ≡ None
 none_among [] raw h = refl
 none_among (c ∷ cs) raw h = later_none c (line_of c raw) cs raw h.0 (none_among cs raw h.1)
 
@@ -150,10 +151,6 @@ pub names_of-unlined : (ts : List TaskDef) (os : List ObjDef) → names_of (map 
 names_of-unlined ts os =
     ap (λ l. l ++ map (λ o. o.name) (map unlined_object os)) (names_same ts) ∙ ap (λ l. map (λ t. t.name) ts ++ l) (object_names_same os)
 
-length_map : {X Y : Type 0} (f : X → Y) (xs : List X) → length (map f xs) ≡ length xs
-length_map f [] = refl
-length_map f (x ∷ xs) = ap suc (length_map f xs)
-
 some_none : {X Y : Type 0} (f : X → Y) (xs : List X) → 1 ≤ length xs → line_of_none (map f xs) ≡ None
 some_none f [] h = absurd (omega arith)
 some_none f (x ∷ xs) h = refl
@@ -166,9 +163,9 @@ pub IsMade-stored : (image : ImageRecord) → IsValidImage image → IsMade (sto
 IsMade-stored image v =
     let names = names_of-unlined image.tasks image.objects in
     record {
-      tasks = rw (length_map unlined_task image.tasks) v.tasks_room;
-      objects = rw (length_map unlined_object image.objects) v.objects_room;
-      vectors = rw (length_map unlined_vector image.vectors) v.vectors_room;
+      tasks = rw (length-map image.tasks unlined_task) v.tasks_room;
+      objects = rw (length-map image.objects unlined_object) v.objects_room;
+      vectors = rw (length-map image.vectors unlined_vector) v.vectors_room;
       code = v.code_room;
       ram = v.ram_room;
       names = subst (All IsFreeName) (sym names) v.names;

@@ -1,8 +1,9 @@
 -- A raw image that is laid out is read back.
-use Rattle.std.proofs.Common.{◌≡◌, ℕ, ◌+◌, ◌*◌, ◌≤◌, nat_le, List, [], ◌∷◌, ◌++◌, length, map, Bool, true, false, not, ◌&&◌, Result, Ok, Err, refl, sym, ap, subst, ◌∙◌, arith, length-append, if◌then◌else◌, take, suc, ◌⊎◌, inl, inr, append_assoc}
+use Rattle.std.proofs.Common.{◌≡◌, ℕ, ◌+◌, ◌*◌, ◌≤◌, nat_le, List, [], ◌∷◌, ◌++◌, length, map, Bool, true, false, not, ◌&&◌, Result, Ok, Err, refl, sym, ap, subst, ◌∙◌, arith, length-append, if◌then◌else◌, take, ◌⊎◌, inl, inr, append_assoc}
 use Rattle.std.specs.List.{list_all, flat_map, AllByRecursion}
 use Rattle.std.proofs.lemmas.Bool.{and_from, or_from, le-leb, not_from_true}
 use Rattle.std.proofs.lemmas.List.Elements.{recursion_from_All}
+use Rattle.std.proofs.lemmas.List.{length-map}
 use Rattle.app_image.specs.declared.header.Header.{Header}
 use Rattle.app_image.specs.declared.causes.ImageCause.TheVariants.{BadName, Layout}
 use Rattle.app_image.specs.declared.causes.ImageError.{ImageError}
@@ -44,14 +45,10 @@ pub count_settings : (version : ℕ) → (version ≡ 1) ⊎ (version ≡ 2) →
 count_settings version (inl e) = rw e refl
 count_settings version (inr e) = rw e refl
 
-length_map : {X Y : Type 0} (f : X → Y) (xs : List X) → length (map f xs) ≡ length xs
-length_map f [] = refl
-length_map f (x ∷ xs) = ap suc (length_map f xs)
-
 settings_length : (version : ℕ) (raw : RawRecord) → Parts version raw → length (words_bytes (map (λ s. s.value) raw.config)) ≡ 4 * settings_count version
 settings_length version raw p =
     let n : length (map (λ s. s.value) raw.config) ≡ settings_count version =
-    length_map (λ s. s.value) raw.config ∙ (sym (length_map (λ s. s.key) raw.config) ∙ (ap length p.keys ∙ count_settings version p.known)) in
+    length-map raw.config (λ s. s.value) ∙ (sym (length-map raw.config (λ s. s.key)) ∙ (ap length p.keys ∙ count_settings version p.known)) in
     all_words (map (λ s. s.value) raw.config) p.config ∙ ap (λ k. 4 * k) n
 
 place_tasks : (version : ℕ) (raw : RawRecord) → Parts version raw → tasks_place (head version raw) ≡ length (front_tasks version raw)

@@ -1,7 +1,8 @@
 -- What is laid out is read back: each raw image that fits a version, and so each valid image that was written.
-use Rattle.std.proofs.Common.{◌≡◌, ℕ, List, [], ◌∷◌, ◌++◌, length, map, refl, sym, ap, ◌∙◌, arith, inr, Ok, suc}
+use Rattle.std.proofs.Common.{◌≡◌, ℕ, List, [], ◌∷◌, ◌++◌, length, map, refl, sym, ap, ◌∙◌, arith, inr, Ok}
 use Rattle.std.specs.List.{flat_map, AllByRecursion}
 use Rattle.std.proofs.lemmas.List.Elements.{recursion_from_All, All-from_recursion}
+use Rattle.std.proofs.lemmas.List.{length-map}
 use Rattle.app_image.specs.Names.{IsFreeName, names_of}
 use Rattle.app_image.specs.Image.{ImageRecord, IsValidTask, IsValidObject, IsValidImage}
 use Rattle.app_image.specs.Settings.{IsValidConfig}
@@ -130,10 +131,6 @@ parts_stored image v w = record {
 }
 
 -- the bytes are the same
-length_map : {X Y : Type 0} (f : X → Y) (xs : List X) → length (map f xs) ≡ length xs
-length_map f [] = refl
-length_map f (x ∷ xs) = ap suc (length_map f xs)
-
 same_flat : {X : Type 0} (f : X → X) (bytes : X → List ℕ) → ((x : X) → bytes (f x) ≡ bytes x) → (xs : List X) → flat_map bytes (map f xs) ≡ flat_map bytes xs
 same_flat f bytes e [] = refl
 same_flat f bytes e (x ∷ xs) = ap (λ l. l ++ flat_map bytes (map f xs)) (e x) ∙ ap (λ l. bytes x ++ l) (same_flat f bytes e xs)
@@ -141,9 +138,9 @@ same_flat f bytes e (x ∷ xs) = ap (λ l. l ++ flat_map bytes (map f xs)) (e x)
 layout_stored : (image : ImageRecord) → raw_layout 2 (stored image) ≡ layout image
 layout_stored image =
     rw (
-      length_map unlined_task image.tasks,
-      length_map unlined_object image.objects,
-      length_map unlined_vector image.vectors,
+      length-map image.tasks unlined_task,
+      length-map image.objects unlined_object,
+      length-map image.vectors unlined_vector,
       same_flat unlined_task task_bytes (λ t. refl) image.tasks,
       same_flat unlined_object object_bytes (λ o. refl) image.objects,
       same_flat unlined_vector vector_bytes (λ v. refl) image.vectors,

@@ -133,6 +133,19 @@ pub fn is_served(service: Service) -> bool
             | Service::FlagPend
             | Service::TaskSemPend
             | Service::TaskQPend
+            | Service::SchedLock
+            | Service::SchedUnlock
+            | Service::TimeGet
+            | Service::TimeDly
+            | Service::TimeDlyResume
+            | Service::SemPendAbort
+            | Service::QPendAbort
+            | Service::FlagPendAbort
+            | Service::TaskSemPendAbort
+            | Service::TaskQPendAbort
+            | Service::SemDel
+            | Service::QDel
+            | Service::FlagDel
     )
 }
 

@@ -1,20 +1,20 @@
--- What a decision on a call about an object comes to: the answers, who waits, who is woken with what, and that priorities are
--- renewed. How the object itself changes is the object's own.
-use Rattle.std.specs.Prelude.{◌≡◌, ℕ, Bool, true, false, List, [], ◌∷◌, length}
+-- What a decision on a call comes to: the answers, who waits, who is woken with what, and that priorities are renewed. How the
+-- object of the call changes is the object's own.
+use Rattle.std.specs.Prelude.{◌≡◌, ℕ, Bool, true, false, List, [], ◌∷◌, length, if◌then◌else◌}
 use Rattle.kern_base.specs.Services.{renews}
 use Rattle.kern_base.specs.declared.services.Service.{Service}
-use Rattle.kern_base.specs.declared.services.Service.TheVariants.{SemPost, QPost, TaskQPost, FlagPend, TaskSemPend, TaskQPend, MutexPost, SemPendAbort, QPendAbort, FlagPendAbort, MutexPendAbort, TaskSemPendAbort, TaskQPendAbort, SemDel, QDel, FlagDel, MutexDel}
+use Rattle.kern_base.specs.declared.services.Service.TheVariants.{SemPost, QPost, TaskQPost, FlagPend, TaskSemPend, TaskQPend, MutexPost, SemPendAbort, QPendAbort, FlagPendAbort, MutexPendAbort, TaskSemPendAbort, TaskQPendAbort, SemDel, QDel, FlagDel, MutexDel, TimeDly, TimeDlyResume}
 use Rattle.kern_base.specs.declared.requests.Request.{Request}
-use Rattle.kern_base.specs.declared.errors.OsErr.TheVariants.{PendAbort, ObjectDeleted}
+use Rattle.kern_base.specs.declared.errors.OsErr.TheVariants.{PendAbort, ObjectDeleted, TaskSuspended}
 use Rattle.kern_base.specs.declared.outcomes.Answer.{Answer}
 use Rattle.kern_base.specs.declared.outcomes.Around.{Around}
 use Rattle.kern_base.specs.declared.outcomes.Decision.{Decision}
 use Rattle.kern_base.specs.declared.outcomes.Decision.TheVariants.{Done, Block, Wake}
 use Rattle.kern_base.specs.declared.outcomes.Finished.{Finished}
-use Rattle.kern_base.specs.declared.outcomes.Waiting.TheVariants.{Obj, TaskSem, TaskQ}
+use Rattle.kern_base.specs.declared.outcomes.Waiting.TheVariants.{Delay, Obj, TaskSem, TaskQ}
 use Rattle.kern_base.specs.declared.outcomes.Who.{Who}
 use Rattle.kern_base.specs.declared.outcomes.Who.TheVariants.{First, All, Matching}
-use Rattle.kern_model.specs.State.{Kernel, Task, Content, Bits, list_at, with_content}
+use Rattle.kern_model.specs.State.{Kernel, Task, Content, Bits, is_zero, list_at, task_at, with_content}
 use Rattle.kern_model.specs.Micro.{at_head, at_tail}
 use Rattle.kern_model.specs.Call.{call_of}
 use Rattle.kern_model.specs.Checks.{argument}
@@ -22,6 +22,7 @@ use Rattle.kern_model.specs.Effect.{Effect, Wait, done, answer, answers, fine, m
 use Rattle.kern_model.specs.Flags.{flag_wakes_all, flag_blocks_all}
 use Rattle.kern_model.specs.Inherit.{renewing}
 use Rattle.kern_model.specs.Services.{content_for, perform}
+use Rattle.kern_model.specs.Time.{delay_of}
 use Rattle.kern_model.specs.Waiters.{without_object}
 use Rattle.decisions.specs.Around.{IsAround}
 
@@ -69,10 +70,19 @@ reply Posted n = fine 0
 reply Aborted n = fine n
 reply Deleted n = fine n
 
+-- the answer of the call that ended a delay: also where the task is suspended, and so not ready yet
+abbrev pub ended_delay : ℕ → Answer
+ended_delay suspended = if is_zero suspended then fine 0 else answer TaskSuspended 0
+
+-- the answer of the call that woke these
+abbrev pub replied : Service → List ℕ → Kernel → Answer
+replied TimeDlyResume (x ∷ xs) k = ended_delay (task_at k x).suspended
+replied s xs k = reply (ending_of s) (length xs)
+
 -- these tasks are woken
 abbrev pub ends_waits : Service → Request → ℕ → List ℕ → Kernel → Effect
 ends_waits s r compared xs k =
-    let e = ending_of s in woken (handed_result s r (handed e s r)) (reply e (length xs)) compared xs k
+    woken (handed_result s r (handed (ending_of s) s r)) (replied s xs k) compared xs k
 
 -- the bits of a group
 abbrev pub bits_in : Content → ℕ
@@ -95,13 +105,23 @@ wakes_some All s r compared xs k = ends_waits s r compared xs k
 wakes_some Matching s r compared xs k = wakes_matching (bits_in (content_for r k)) compared xs k
 
 -- after a deletion the object is gone
-abbrev pub gone_after : Ending → ℕ → Effect → Effect
-gone_after Deleted o e = record { kernel = without_object o e.kernel; outcome = e.outcome; blocks = e.blocks }
-gone_after _ o e = e
+abbrev pub gone_by : Ending → ℕ → Kernel → Kernel
+gone_by Deleted o k = without_object o k
+gone_by _ o k = k
 
--- what a caller waits for that waits in this call
-abbrev pub wait_of : Service → Request → Wait
-wait_of FlagPend r =
+abbrev pub gone_after : Ending → ℕ → Effect → Effect
+gone_after g o e = record { kernel = gone_by g o e.kernel; outcome = e.outcome; blocks = e.blocks }
+
+-- the objects for which a caller waits that waits in this call
+abbrev pub wait_objects : Service → Request → List ℕ
+wait_objects TaskSemPend r = []
+wait_objects TaskQPend r = []
+wait_objects TimeDly r = []
+wait_objects s r = argument r 0 ∷ []
+
+-- what it waits for, at this tick
+abbrev pub wait_of : Service → Request → ℕ → Wait
+wait_of FlagPend r ticks =
     record {
       waiting = Obj FlagPend;
       objects = argument r 0 ∷ [];
@@ -110,9 +130,10 @@ wait_of FlagPend r =
       table = 0;
       timeout = argument r 2;
     }
-wait_of TaskSemPend r = waits_for TaskSem [] (argument r 0)
-wait_of TaskQPend r = waits_for TaskQ [] (argument r 0)
-wait_of s r = waits_for (Obj s) (argument r 0 ∷ []) (argument r 1)
+wait_of TaskSemPend r ticks = waits_for TaskSem [] (argument r 0)
+wait_of TaskQPend r ticks = waits_for TaskQ [] (argument r 0)
+wait_of TimeDly r ticks = waits_for Delay [] (delay_of r ticks)
+wait_of s r ticks = waits_for (Obj s) (argument r 0 ∷ []) (argument r 1)
 
 -- priorities are renewed after a call that began or ended waits for a mutex
 abbrev pub renewed_after : Bool → (List ℕ → ℕ) → Effect → Effect
@@ -123,7 +144,7 @@ renewed_after true place e = renewing place e
 -- changed. Woken tasks are compared with the priority `compared`.
 abbrev pub decided : Decision → Service → Request → ℕ → ℕ → List ℕ → Kernel → Effect
 decided (Done a) s r x compared xs k = done k a
-decided Block s r x compared xs k = renewed_after (renews s) at_head (blocks_on k x (wait_of s r))
+decided Block s r x compared xs k = renewed_after (renews s) at_head (blocks_on k x (wait_of s r k.ticks))
 decided (Wake who) s r x compared xs k =
     renewed_after (renews s) at_tail (gone_after (ending_of s) (argument r 0) (wakes_some who s r compared xs k))
 

@@ -5,7 +5,7 @@
 
 ghost use Rattle.std.specs.Prelude.{◌≡◌, slice_index};
 ghost use Rattle.decisions.specs.Rows.{refusal, wait_decision, abort_decision, delete_decision};
-ghost use Rattle.decisions.specs.Decided.{ending_of, handed, reply};
+ghost use Rattle.decisions.specs.Decided.{ended_delay, ending_of, handed, reply};
 ghost use Rattle.kern_model.specs.Effect.{answer, fine, message};
 
 use kern_base::{Answer, Around, Decision, OsErr, Request, Service, Who};
@@ -100,7 +100,18 @@ pub fn handed(request: &Request) -> Answer
     }
 }
 
-/// The answer of a call that woke so many tasks; not that of a post of event flags.
+/// The answer of the call that ended the delay of a task, which is suspended so often: where it is, it is not ready yet.
+pub fn ended_delay(suspended: u8) -> Answer
+    ensures { result ≡ ended_delay suspended }
+{
+    if suspended == 0 {
+        success(0)
+    } else {
+        failure(OsErr::TaskSuspended)
+    }
+}
+
+/// The answer of a call that woke so many tasks; not that of a post of event flags, nor of one that ended a delay.
 pub fn reply(service: Service, woken: u32) -> Answer
     ensures { result ≡ reply (ending_of service) woken }
 {

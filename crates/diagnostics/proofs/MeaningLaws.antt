@@ -6,7 +6,7 @@ use Rattle.std.specs.Str.{bytes_eq}
 use Rattle.std.specs.Fmt.{digits}
 use Rattle.program_model.specs.declared.causes.CaseCause.{CaseCause}
 use Rattle.program_model.specs.declared.causes.CaseCause.TheVariants.{BadByte, NumberTooLarge, OfText, OfImage, OfInjection}
-use Rattle.rv32_asm.specs.declared.causes.AsmCause.TheVariants as asm
+use Rattle.asm_causes.specs.declared.causes.AsmCause.TheVariants as asm
 use Rattle.app_image.specs.declared.causes.ImageCause.TheVariants as image
 use Rattle.inject_list.specs.declared.causes.InjectCause.TheVariants as inject
 use Rattle.diagnostics.specs.Meanings.{meaning, meaning_in, meanings}

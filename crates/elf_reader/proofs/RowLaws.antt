@@ -1,28 +1,10 @@
 -- Laws of rows of values.
-use Rattle.std.proofs.Common.{◌≡◌, ℕ, zero, suc, ◌+◌, ◌-◌, ◌*◌, ◌<◌, ◌≤◌, [], ◌∷◌, ◌++◌, refl, sym, ap, ◌∙◌, arith, add-one, Bool, false, ◌||◌}
+use Rattle.std.proofs.Common.{◌≡◌, ℕ, zero, suc, ◌+◌, ◌-◌, ◌*◌, ◌<◌, ◌∷◌, refl, sym, ap, ◌∙◌, arith, Bool, false, ◌||◌}
 use Rattle.std.specs.Prelude.{fold}
 use Rattle.std.specs.List.{list_any}
 use Rattle.app_image.specs.Fields.{rows}
 
--- one more row at the end
-rows_suc : {T : Type 0} (f : ℕ → T) (size n at : ℕ) → rows f size (suc n) at ≡ rows f size n at ++ f (at + size * n) ∷ []
-rows_suc f size zero at = let e : at + size * 0 ≡ at = omega arith in rw e refl
-rows_suc f size (suc n) at =
-    let e : (at + size) + size * n ≡ at + size * suc n = omega arith in
-    ap (λ l. f at ∷ l) (rows_suc f size n (at + size)) ∙ ap (λ p. f at ∷ (rows f size n (at + size) ++ f p ∷ [])) e
-
-pub rows_push : {T : Type 0} (f : ℕ → T) (size n at : ℕ) → rows f size (n + 1) at ≡ rows f size n at ++ f (at + size * n) ∷ []
-rows_push f size n at = rw (add-one n) (rows_suc f size n at)
-
--- the next row, and those behind it
-pub rows_next : {T : Type 0} (f : ℕ → T) (size n k at : ℕ) → k < n
-    → rows f size (n - k) (at + size * k) ≡ f (at + size * k) ∷ rows f size (n - (k + 1)) (at + size * (k + 1))
-rows_next f size n k at h =
-    let e : n - k ≡ suc (n - (k + 1)) = omega arith in
-    let p : (at + size * k) + size ≡ at + size * (k + 1) = omega arith in
-    ap (λ m. rows f size m (at + size * k)) e ∙ ap (λ q. f (at + size * k) ∷ rows f size (n - (k + 1)) q) p
-
--- the same from place 0 on
+-- the next row from place 0 on, and those behind it
 pub rows_next0 : {T : Type 0} (f : ℕ → T) (size n k : ℕ) → k < n → rows f size (n - k) (size * k) ≡ f (size * k) ∷ rows f size (n - (k + 1)) (size * (k + 1))
 rows_next0 f size n k h =
     let e : n - k ≡ suc (n - (k + 1)) = omega arith in
@@ -41,11 +23,6 @@ any_next1 p n k at h e =
     let m : n - k ≡ suc (n - (k + 1)) = omega arith in
     let q : (at + k) + 1 ≡ at + (k + 1) = omega arith in
     sym (ap (λ j. list_any p (rows (λ i. i) 1 j (at + k))) m ∙ ap (λ b. b || list_any p (rows (λ i. i) 1 (n - (k + 1)) ((at + k) + 1))) e ∙ ap (λ j. list_any p (rows (λ i. i) 1 (n - (k + 1)) j)) q)
-
-pub any_next : {T : Type 0} (p : T → Bool) (f : ℕ → T) (size n k at : ℕ) → k < n → p (f (at + size * k)) ≡ false
-    → list_any p (rows f size (n - (k + 1)) (at + size * (k + 1))) ≡ list_any p (rows f size (n - k) (at + size * k))
-any_next p f size n k at h e =
-    sym (ap (list_any p) (rows_next f size n k at h) ∙ ap (λ b. b || list_any p (rows f size (n - (k + 1)) (at + size * (k + 1)))) e)
 
 -- a row added by a fold, and those behind it
 pub fold_next0 : {T U : Type 0} (g : U → T → U) (u : U) (f : ℕ → T) (size n k : ℕ) → k < n
@@ -77,6 +54,3 @@ any_same p q (suc n) a b h =
     let qk : b + suc k ≡ (b + 1) + k = omega arith in
     ap p pk ∙ h (suc k) (omega arith) ∙ ap q qk) in
     ap (λ x. x || list_any p (rows (λ i. i) 1 n (a + 1))) head ∙ ap (λ l. q b || l) rest
-
-pub rows_end : {T : Type 0} (f : ℕ → T) (size n k at : ℕ) → n ≤ k → rows f size (n - k) at ≡ []
-rows_end f size n k at h = let e : n - k ≡ 0 = omega arith in ap (λ m. rows f size m at) e

@@ -1,6 +1,6 @@
 //! The reader of ELF32 executables for RISC-V: the code, the initial RAM and the symbols that one
 //! gives, and where the text behind it begins; or the first cause of its refusal.
-#![tactic(auto, using(crate::proofs::RowLaws::rows_push, crate::proofs::RowLaws::rows_next, crate::proofs::RowLaws::rows_end))]
+#![tactic(auto, using(app_image::proofs::RowLaws::rows_push, app_image::proofs::RowLaws::rows_next, app_image::proofs::RowLaws::rows_end))]
 
 mod causes;
 mod executables;

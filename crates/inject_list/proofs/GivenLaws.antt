@@ -7,7 +7,7 @@ use Rattle.app_image.specs.Image.{ImageRecord, IsValidVector}
 use Rattle.app_image.specs.declared.records.VectorDef.{VectorDef}
 use Rattle.inject_list.specs.Lists.{ListRecord, is_declared, last_moment, most_entries}
 use Rattle.inject_list.specs.Entries.{Interrupt}
-use Rattle.inject_list.specs.Stage.{cause_of, entries, has_late_moment, four_words}
+use Rattle.inject_list.specs.Reading.{cause_of, entries, has_late_moment, four_words}
 use Rattle.inject_list.specs.Parts.{kept}
 use Rattle.inject_list.specs.Given.{moment_at, moment_of}
 use Rattle.inject_list.specs.declared.entries.When.{When}

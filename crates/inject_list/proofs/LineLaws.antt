@@ -8,7 +8,7 @@ use Rattle.app_image.specs.Image.{ImageRecord}
 use Rattle.inject_list.specs.Lists.{ListRecord}
 use Rattle.inject_list.specs.Pieces.{is_end, extended, lines, pieces}
 use Rattle.inject_list.specs.Entries.{Entry, entry_of}
-use Rattle.inject_list.specs.Stage.{Gives, Refuses, cause_of, with_line, read_from, IsFault}
+use Rattle.inject_list.specs.Reading.{Gives, Refuses, cause_of, with_line, read_from, IsFault}
 use Rattle.inject_list.specs.Parts.{is_before_end}
 use Rattle.inject_list.specs.declared.causes.InjectCause.{InjectCause}
 use Rattle.inject_list.specs.declared.causes.InjectError.{InjectError}

@@ -9,7 +9,7 @@ use Rattle.app_image.specs.declared.records.ObjDef.{ObjDef}
 use Rattle.app_image.specs.declared.records.VectorDef.{VectorDef}
 use Rattle.inject_list.specs.Lists.{ListRecord, no_injections}
 use Rattle.inject_list.specs.Entries.{Interrupt, Looks, AtPriority}
-use Rattle.inject_list.specs.Stage.{Reading, Gives, Refuses, injections_in, cause_of}
+use Rattle.inject_list.specs.Reading.{Reading, Gives, Refuses, injections_in, cause_of}
 use Rattle.inject_list.specs.declared.causes.InjectCause.TheVariants.{WrongForm, NoVector, TooManyWords, TooMany, NoList, LateMoment}
 use Rattle.inject_list.specs.declared.lists.Moment.TheVariants.{Task, Step}
 use Rattle.inject_list.specs.declared.lists.Seen.TheVariants.{Obj, Ready}

@@ -15,7 +15,7 @@ use Rattle.app_image.specs.declared.records.ObjDef.{ObjDef}
 use Rattle.app_image.proofs.Searches.{cond_none}
 use Rattle.inject_list.specs.Lists.{ListRecord, IsValidList, IsInjection, IsMoment, IsSeen, IsSeenObject, is_declared, has_waiters, most_entries}
 use Rattle.inject_list.specs.Entries.{Entry, Interrupt, Looks, Target, Named, AtPriority}
-use Rattle.inject_list.specs.Stage.{cause_of, entries, has, four_words, with_entry, with_line, seen_in, is_seen_as, has_late_moment, has_no_list, has_no_vector, has_too_many_words}
+use Rattle.inject_list.specs.Reading.{cause_of, entries, has, four_words, with_entry, with_line, seen_in, is_seen_as, has_late_moment, has_no_list, has_no_vector, has_too_many_words}
 use Rattle.inject_list.specs.declared.causes.InjectCause.TheVariants.{NoVector, TooManyWords, TooMany, NoList, LateMoment}
 use Rattle.inject_list.specs.declared.lists.Injection.{Injection}
 use Rattle.inject_list.specs.declared.lists.Look.{Look}

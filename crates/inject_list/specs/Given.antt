@@ -3,7 +3,7 @@ use Rattle.std.specs.Prelude.{◌≡◌, ℕ, nat_lt, ◌++◌, [], ◌∷◌, O
 use Rattle.app_image.specs.Image.{ImageRecord}
 use Rattle.inject_list.specs.Lists.{ListRecord, last_moment}
 use Rattle.inject_list.specs.Entries.{Entry}
-use Rattle.inject_list.specs.Stage.{cause_of, entries, with_line}
+use Rattle.inject_list.specs.Reading.{cause_of, entries, with_line}
 use Rattle.inject_list.specs.declared.causes.InjectCause.{InjectCause}
 use Rattle.inject_list.specs.declared.entries.Given.{Given}
 use Rattle.inject_list.specs.declared.entries.Given.TheVariants as given

@@ -1,6 +1,6 @@
 pub mod Lists
 pub mod Pieces
 pub mod Entries
-pub mod Stage
+pub mod Reading
 pub mod Parts
 pub mod Given

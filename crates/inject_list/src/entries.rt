@@ -5,7 +5,7 @@ ghost use Rattle.std.specs.List.{position};
 ghost use Rattle.app_image.specs.Image.{ImageRecord};
 ghost use Rattle.inject_list.specs.Lists.{has_waiters, is_declared};
 ghost use Rattle.inject_list.specs.Entries as entries;
-ghost use Rattle.inject_list.specs.Stage.{is_seen_as, seen_in};
+ghost use Rattle.inject_list.specs.Reading.{is_seen_as, seen_in};
 ghost use Rattle.inject_list.specs.Parts.{kept};
 ghost use Rattle.inject_list.specs.Given.{moment_at, moment_of, IsGiven};
 

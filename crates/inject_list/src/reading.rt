@@ -3,7 +3,7 @@
 ghost use Rattle.std.specs.Prelude.{◌≡◌, ◌≤◌, ◌+◌, [], ◌∷◌, drop, length, OnOk, IfOk, IfErr};
 ghost use Rattle.std.specs.List.{prefix_len};
 ghost use Rattle.inject_list.specs.Lists.{IsValidList};
-ghost use Rattle.inject_list.specs.Stage.{Gives, read_from, injections_in, IsFault as IsFaultIn};
+ghost use Rattle.inject_list.specs.Reading.{Gives, read_from, injections_in, IsFault as IsFaultIn};
 ghost use Rattle.inject_list.specs.Parts.{is_before_end};
 ghost use Rattle.inject_list.specs.Given.{with_given};
 

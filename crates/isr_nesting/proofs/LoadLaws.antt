@@ -6,7 +6,7 @@ use Rattle.isr_nesting.specs.declared.records.Recorded.{Recorded}
 use Rattle.isr_nesting.specs.declared.orders.Timed.{Timed}
 use Rattle.isr_nesting.specs.Nest.{numbered}
 use Rattle.isr_nesting.specs.Keys.{key}
-use Rattle.isr_nesting.specs.Kept.{Stands, HasPlaces, IsPassed}
+use Rattle.isr_nesting.specs.Kept.{WaitsAt, HasPlaces, IsPassed}
 use Rattle.isr_nesting.specs.Order.{IsOrder, timed_at}
 use Rattle.isr_nesting.specs.RecordView.{interrupt_in, record_at, has_entered, waiting_from, task_numbers}
 use Rattle.isr_nesting.proofs.KeyLaws.{key-number}
@@ -39,7 +39,7 @@ module _ (rs : List Recorded) (order : List Timed) where
   keys_of = map (λ (x : Timed). key (record_at rs x.number).level x.number) order
 
   module _ (es : List Bool) (ps : List ℕ) (few : length rs ≤ 16384) (waits : (i : ℕ) → i < length rs → has_entered es i ≡ false) (ordered : IsOrder rs order) (places : (j : ℕ) → j < length order → slice_index ps (timed_at order j).number ≡ j) where
-    stands_at : (j : ℕ) → j < length order → Stands rs es ps moments_of keys_of (timed_at order j).number (timed_at order j).moment j
+    stands_at : (j : ℕ) → j < length order → WaitsAt rs es ps moments_of keys_of (timed_at order j).number (timed_at order j).moment j
     stands_at j h =
         let inside = ordered.inside j h in
         record {
@@ -62,16 +62,16 @@ module _ (rs : List Recorded) (order : List Timed) where
               let number : (timed_at order j).number ≡ i = ap (λ (x : Timed). x.number) f.2 in
               let moment : (timed_at order j).moment ≡ m = ap (λ (x : Timed). x.moment) f.2 in
               let place : j ≡ slice_index ps i = sym (places j f.1) ∙ ap (slice_index ps) number in
-              subst (λ k. Stands rs es ps moments_of keys_of i m k) place
-              (subst (λ n. Stands rs es ps moments_of keys_of i n j) moment
-              (subst (λ n. Stands rs es ps moments_of keys_of n (timed_at order j).moment j) number st));
+              subst (λ k. WaitsAt rs es ps moments_of keys_of i m k) place
+              (subst (λ n. WaitsAt rs es ps moments_of keys_of i n j) moment
+              (subst (λ n. WaitsAt rs es ps moments_of keys_of n (timed_at order j).moment j) number st));
           only = λ j h.
               let inside : j < length order = omega (arith, h, length-map order (λ (x : Timed). key (record_at rs x.number).level x.number)) in
               let st = stands_at j inside in
               let i = (timed_at order j).number in
               let number : i ≡ slice_index keys_of j % 16384 = sym (ap (λ k. k % 16384) st.key_here ∙ key-number (record_at rs i).level i (omega (arith, st.number))) in
-              inr (subst (λ m. Stands rs es ps moments_of keys_of (slice_index keys_of j % 16384) m j) (sym st.moment)
-              (subst (λ n. Stands rs es ps moments_of keys_of n (timed_at order j).moment j) number st));
+              inr (subst (λ m. WaitsAt rs es ps moments_of keys_of (slice_index keys_of j % 16384) m j) (sym st.moment)
+              (subst (λ n. WaitsAt rs es ps moments_of keys_of n (timed_at order j).moment j) number st));
         }
 
     pub moments-rise : (i j : ℕ) → i ≤ j → j < length moments_of → slice_index moments_of i ≤ slice_index moments_of j

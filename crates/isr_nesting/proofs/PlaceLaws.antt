@@ -10,7 +10,7 @@ use Rattle.isr_nesting.specs.declared.records.Recorded.{Recorded}
 use Rattle.machine_model.specs.Due.{is_step}
 use Rattle.isr_nesting.specs.Least.{nothing, least}
 use Rattle.isr_nesting.specs.Keys.{key, step_key}
-use Rattle.isr_nesting.specs.Kept.{Stands, HasPlaces, IsPassed}
+use Rattle.isr_nesting.specs.Kept.{WaitsAt, HasPlaces, IsPassed}
 use Rattle.isr_nesting.specs.RecordView.{record_at, has_entered, waiting_from, task_numbers}
 use Rattle.isr_nesting.proofs.KeyLaws.{key-number, key-small}
 use Rattle.isr_nesting.proofs.TreeLaws.{least-low}
@@ -109,12 +109,12 @@ waits-still es i x h = get_or-set_other es i x true true h
 
 module _ (rs : List Recorded) (es : List Bool) (ps ms ks : List ℕ) where
   -- an interrupt stands where it stood
-  stands_kept : (es' : List Bool) (ks' : List ℕ) (i m j : ℕ) → Stands rs es ps ms ks i m j → has_entered es' i ≡ false → slice_index ks' j ≡ slice_index ks j → Stands rs es' ps ms ks' i m j
+  stands_kept : (es' : List Bool) (ks' : List ℕ) (i m j : ℕ) → WaitsAt rs es ps ms ks i m j → has_entered es' i ≡ false → slice_index ks' j ≡ slice_index ks j → WaitsAt rs es' ps ms ks' i m j
   stands_kept es' ks' i m j st open_yet same =
       record { number = st.number; waits = open_yet; step = st.step; place = st.place; inside = st.inside; moment = st.moment; key_here = same ∙ st.key_here }
 
   -- two that wait stand at two places
-  apart : (i m n x : ℕ) → length rs ≤ 16384 → Stands rs es ps ms ks i m (slice_index ps i) → Stands rs es ps ms ks x n (slice_index ps x) → x ≢ i → slice_index ps x ≢ slice_index ps i
+  apart : (i m n x : ℕ) → length rs ≤ 16384 → WaitsAt rs es ps ms ks i m (slice_index ps i) → WaitsAt rs es ps ms ks x n (slice_index ps x) → x ≢ i → slice_index ps x ≢ slice_index ps i
   apart i m n x few a b other = λ q.
       let one : key (record_at rs x).level x ≡ key (record_at rs i).level i = sym b.key_here ∙ ap (slice_index ks) q ∙ a.key_here in
       other (sym (key-number (record_at rs x).level x (omega (arith, b.number))) ∙ ap (λ k. k % 16384) one ∙ key-number (record_at rs i).level i (omega (arith, a.number)))
@@ -124,13 +124,13 @@ module _ (rs : List Recorded) (es : List Bool) (ps ms ks : List ℕ) where
       → HasPlaces rs (slice_set es i true) ps ms (slice_set ks (slice_index ps i) nothing)
   places-step i m few size inside room open_yet step places =
       let p = slice_index ps i in
-      let mine : Stands rs es ps ms ks i m p = places.stands i m inside open_yet step in
+      let mine : WaitsAt rs es ps ms ks i m p = places.stands i m inside open_yet step in
       let now = slice_set es i true in
       let keys = slice_set ks p nothing in
       record {
         stands = λ x n number waits moment.
             let other : x ≢ i = waits-other es i x room waits in
-            let st : Stands rs es ps ms ks x n (slice_index ps x) = places.stands x n number (sym (waits-still es i x other) ∙ waits) moment in
+            let st : WaitsAt rs es ps ms ks x n (slice_index ps x) = places.stands x n number (sym (waits-still es i x other) ∙ waits) moment in
             stands_kept now keys x n (slice_index ps x) st waits (get_or-set_other ks p (slice_index ps x) nothing 0 (apart i m n x few mine st other));
         only = λ j h.
             elim (eqb_tells j p) [
@@ -142,7 +142,7 @@ module _ (rs : List Recorded) (es : List Bool) (ps ms ks : List ℕ) where
                     | inr st ↦
                         let x = slice_index ks j % 16384 in
                         let other : x ≢ i = λ e. q.1 (sym st.place ∙ ap (slice_index ps) e) in
-                        inr (subst (λ k. Stands rs now ps ms keys (k % 16384) (slice_index ms j) j) (sym same)
+                        inr (subst (λ k. WaitsAt rs now ps ms keys (k % 16384) (slice_index ms j) j) (sym same)
                         (stands_kept now keys x (slice_index ms j) j st (waits-still es i x other ∙ st.waits) same))
                   ]
             ];

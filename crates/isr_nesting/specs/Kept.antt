@@ -10,8 +10,8 @@ use Rattle.isr_nesting.specs.RecordView.{record_at, has_entered, task_numbers}
 -- `records`: the interrupts of the list by number; `entered`: which have entered; `places`: where those whose moment is in raw
 -- steps stand among `moments`; `keys`: the keys of those that have not entered, nothing for the others.
 module _ (records : List Recorded) (entered : List Bool) (places moments keys : List ℕ) where
-  -- interrupt i waits for the raw step m, and stands at j
-  pub record Stands (i m j : ℕ) : Type 0 where
+  -- interrupt i waits for the raw step m, and has the place j
+  pub record WaitsAt (i m j : ℕ) : Type 0 where
     pub number : i < length records
     pub waits : has_entered entered i ≡ false
     pub step : (record_at records i).moment ≡ Step m
@@ -22,8 +22,8 @@ module _ (records : List Recorded) (entered : List Bool) (places moments keys : 
 
   -- each interrupt that waits for a raw step stands at its place, and each place has such an interrupt or none
   pub record HasPlaces : Type 0 where
-    pub stands : (i m : ℕ) → i < length records → has_entered entered i ≡ false → (record_at records i).moment ≡ Step m → Stands i m (slice_index places i)
-    pub only : (j : ℕ) → j < length keys → (slice_index keys j ≡ nothing) ⊎ Stands (slice_index keys j % 16384) (slice_index moments j) j
+    pub stands : (i m : ℕ) → i < length records → has_entered entered i ≡ false → (record_at records i).moment ≡ Step m → WaitsAt i m (slice_index places i)
+    pub only : (j : ℕ) → j < length keys → (slice_index keys j ≡ nothing) ⊎ WaitsAt (slice_index keys j % 16384) (slice_index moments j) j
 
 -- the first `next` of the numbers of those whose moment is in task steps have entered, and the one behind them has not
 pub record IsPassed (entered : List Bool) (tasks : List ℕ) (next : ℕ) : Type 0 where

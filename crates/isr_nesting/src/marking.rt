@@ -31,12 +31,17 @@ fn has_mark(marks: u8, register: u8) -> bool
     }
 }
 
-// Whether the call of a service reads a marked register: each service that is served has at least two
-// arguments.
+// Whether the call of a service reads a marked register: the first two arguments of one that is served stand in
+// these.
 fn call_reads_mark(marks: u8, service: Service) -> bool
     ensures { result ≡ is_marked (mark_list marks) (call_reads program_serves service) }
 {
-    is_served(service) && (has_mark(marks, 10) || has_mark(marks, 11))
+    is_served(service)
+        && match service.args() {
+            0 => false,
+            1 => has_mark(marks, 10),
+            _ => has_mark(marks, 10) || has_mark(marks, 11),
+        }
 }
 
 // Whether an instruction other than ECALL reads a marked register.

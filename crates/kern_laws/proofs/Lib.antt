@@ -5,3 +5,4 @@ pub mod Lists
 pub mod Cost
 pub mod ObjectKinds
 pub mod Start
+pub mod Lemmas

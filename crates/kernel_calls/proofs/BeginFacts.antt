@@ -1,22 +1,22 @@
 -- A whole step that begins: what was decided of a call is planned, and its first micro-step is in hand.
 use Rattle.std.proofs.Common.{◌≡◌, ℕ, ◌<◌, ◌+◌, ◌*◌, ◌/◌, List, [], ◌∷◌, ◌++◌, length, refl, sym, ap, ◌∙◌, subst, true, false, arith}
-use Rattle.std.specs.Prelude.{◌==◌}
+use Rattle.std.specs.Prelude.{◌==◌, ◌&&◌, ◌≤◌}
 use Rattle.std.proofs.lemmas.Bool.{false≢true}
 use Rattle.kern_base.specs.Services.{is_post}
 use Rattle.kern_base.specs.declared.numbers.Prio.{Prio}
 use Rattle.kern_base.specs.declared.services.Service.{Service}
-use Rattle.kern_base.specs.declared.services.Service.TheVariants.{SemPend, QPend, FlagPend, TaskSemPend, TaskQPend, FlagPost}
+use Rattle.kern_base.specs.declared.services.Service.TheVariants.{SemPend, QPend, FlagPend, TaskSemPend, TaskQPend, FlagPost, TimeDly}
 use Rattle.kern_base.specs.declared.outcomes.Answer.{Answer}
 use Rattle.kern_base.specs.declared.outcomes.Around.{Around}
 use Rattle.kern_base.specs.declared.outcomes.Decision.{Decision}
 use Rattle.kern_base.specs.declared.outcomes.Decision.TheVariants.{Done, Block, Wake}
 use Rattle.kern_base.specs.declared.outcomes.Who.TheVariants.{First, All as Every, Matching}
-use Rattle.kern_model.specs.State.{Kernel, Task, place_of}
+use Rattle.kern_model.specs.State.{Kernel, Task, count_of, is_zero, place_of, task_at, task_in, waits_for_nothing}
 use Rattle.kern_model.specs.Micro.{Halves, Lists, Micro, in_order, lists_of, plain, whole}
 use Rattle.kern_model.specs.Effect.{Effect, blocks_on, chosen}
 use Rattle.kern_model.specs.Services.{blocks, content_for, cost}
-use Rattle.kern_model.specs.Valid.{AllWait, IsLinked}
-use Rattle.kern_model.proofs.Lemmas.{AllWait-chosen, caller_ready, equal, not_false}
+use Rattle.kern_model.specs.Valid.{AllWait, IsLinked, matched}
+use Rattle.kern_model.proofs.Lemmas.{AllWait-chosen, and_first, and_second, caller_ready, equal, not_false}
 use Rattle.micro_steps.specs.declared.link.Link.{Link}
 use Rattle.micro_steps.specs.declared.link.Link.TheVariants as link
 use Rattle.micro_steps.specs.Halfway.{seen as nodes_seen}
@@ -24,14 +24,15 @@ use Rattle.micro_steps.specs.Whole.{AreFit, IsMidway, IsPaused, StepsRecord, lis
 use Rattle.link_plans.specs.Fits.{AreKernels, IsNoded}
 use Rattle.link_plans.specs.Plans.{block_links, links_left, matching_links, wakes_links}
 use Rattle.link_plans.specs.declared.plan.Plan.{Plan}
-use Rattle.link_plans.proofs.Past.{links_keep}
+use Rattle.link_plans.proofs.Lemmas.{links_keep}
 use Rattle.decisions.specs.Around.{IsAround}
-use Rattle.decisions.specs.Decided.{bits_in, decided, ends_waits, wait_of, wakes_matching}
+use Rattle.decisions.specs.Decided.{bits_in, decided, wait_of, wakes_matching}
+use Rattle.tick_timers.specs.Matches.{IsUnmatched}
 use Rattle.kernel_records.specs.Deciding.{IsServedDecision, decision_of, own_change, waiters_of}
 use Rattle.kernel_records.specs.Concluding.{objects_waited, woken_of}
 use Rattle.kernel_records.specs.Served.{is_served_wait}
-use Rattle.kernel_records.proofs.ConcludingFacts.{all-posts, plain-flags, plain-wait, plain-wake}
-use Rattle.kernel_records.proofs.RowFacts.{own-block, own-wake}
+use Rattle.kernel_records.proofs.ConcludingFacts.{all-posts, plain-flags, plain-wait}
+use Rattle.kernel_records.proofs.RowFacts.{beside, own-block}
 use Rattle.kernel_calls.specs.Works.{MayBegin, WorkRecord, effect_of}
 use Rattle.kernel_calls.specs.Stepping.{AreNodes, HasPrios, IsInHand, IsPast, IsPlanned, IsResting, planned_bits, prios_over}
 use Rattle.kernel_calls.specs.KernelView.{state_with}
@@ -41,8 +42,8 @@ use Rattle.kernel_calls.proofs.LinkFacts.{blocks-end, fit-end, links-fresh, link
 use Rattle.kernel_calls.proofs.WakeCase.{wake-blocks, wake-fits, wake-nodes, wake-prios}
 use Rattle.kernel_calls.proofs.BlockCase.{block-blocks, block-fits, block-nodes, block-prios}
 use Rattle.kernel_calls.proofs.FlagCase.{flags-blocks, flags-fit, flags-nodes, flags-prios}
-use Rattle.kernel_calls.proofs.OwnChanges.{beside, free_posted, objects_posted, own-flags, own-keeps}
-use Rattle.kernel_records.proofs.WaitFacts.{unlocked, waited-objects}
+use Rattle.kernel_calls.proofs.OwnChanges.{IsWaking, free_posted, is-waking, objects_posted, own-flags, own-keeps}
+use Rattle.kernel_records.proofs.WaitFacts.{AreObjects, unlocked, wait-objects, waited-objects}
 use Rattle.kernel_calls.proofs.WaiterFacts.{AllWait-waiters}
 
 -- a wait is no post
@@ -52,6 +53,7 @@ wait-posts QPend h = refl
 wait-posts FlagPend h = refl
 wait-posts TaskSemPend h = refl
 wait-posts TaskQPend h = refl
+wait-posts TimeDly h = refl
 wait-posts _ h = absurd (false≢true h)
 
 -- The links of an effect on these lists of nodes: they fit, they are its blocks, and their nodes and priorities are those after it.
@@ -75,10 +77,11 @@ module _ (w : WorkRecord) (q : Plan) (around : Around) (k : Kernel) (l : Lists) 
     links-block e s os =
         let lock = equal k.lock 0 (not_false (k.lock == 0) (sym seen.locked ∙ unlocked w.request around k e s)) in
         let ready = caller_ready k v w.caller (may-call w k may (wait-posts w.request.service s)) lock in
-        let wait = wait_of w.request.service w.request in
-        let objects = waited-objects w.request around k e s in
-        let made : what Block ≡ blocks_on k w.caller wait = plain-wait w.request.service _ s ∙ ap (λ j. blocks_on j w.caller wait) (own-block w.request w.caller k s) in
-        let links : links_of Block k.tasks q ≡ block_links k.tasks w.caller wait.objects = ap (λ x. block_links k.tasks x q.objects.items) caller ∙ ap (block_links k.tasks w.caller) os in
+        let wait = wait_of w.request.service w.request k.ticks in
+        let list : wait.objects ≡ objects_waited Block w.request = wait-objects w.request.service w.request k.ticks in
+        let objects : AreObjects (length k.objects) wait.objects = subst (AreObjects (length k.objects)) (sym list) (waited-objects w.request around k e s) in
+        let made : what Block ≡ blocks_on k w.caller wait = plain-wait w.request.service _ s ∙ ap (λ (j : Kernel). blocks_on j w.caller (wait_of w.request.service w.request j.ticks)) (own-block w.request w.caller k s) in
+        let links : links_of Block k.tasks q ≡ block_links k.tasks w.caller wait.objects = ap (λ x. block_links k.tasks x q.objects.items) caller ∙ ap (block_links k.tasks w.caller) (os ∙ sym list) in
         let all : AreLinksOf (blocks_on k w.caller wait) (length k.objects) prios (block_links k.tasks w.caller wait.objects) l =
         record {
           fits = block-fits w.caller wait k l prios v a p ready.0 ready.1 objects;
@@ -88,17 +91,18 @@ module _ (w : WorkRecord) (q : Plan) (around : Around) (k : Kernel) (l : Lists) 
         } in
         subst (λ f. AreLinksOf f (length k.objects) prios (links_of Block k.tasks q) l) (sym made) (subst (λ ks. AreLinksOf (blocks_on k w.caller wait) (length k.objects) prios ks l) (sym links) all)
 
-    links-wake : (xs : List ℕ) (f : Effect) → AllWait k xs → q.woken.items ≡ xs → f ≡ ends_waits w.request.service w.request w.compared xs k → AreLinksOf f (length k.objects) prios (wakes_links k.tasks q.compared.0 q.woken.items) l
+    links-wake : (xs : List ℕ) (f : Effect) → AllWait k xs → q.woken.items ≡ xs → IsWaking w.request w.compared xs k f → AreLinksOf f (length k.objects) prios (wakes_links k.tasks q.compared.0 q.woken.items) l
     links-wake xs f wait is made =
         let links : wakes_links k.tasks q.compared.0 q.woken.items ≡ wakes_links k.tasks w.compared xs = ap (λ h. wakes_links k.tasks h q.woken.items) compared ∙ ap (wakes_links k.tasks w.compared) is in
-        let all : AreLinksOf (ends_waits w.request.service w.request w.compared xs k) (length k.objects) prios (wakes_links k.tasks w.compared xs) l =
+        let ks = wakes_links k.tasks w.compared xs in
+        let all : AreLinksOf f (length k.objects) prios ks l =
         record {
           fits = wake-fits w.request w.compared xs k l prios v a wait;
-          blocks = wake-blocks w.request w.compared xs k l prios v a wait;
-          noded = wake-nodes w.request w.compared xs k l prios v a wait;
-          listed = wake-prios w.request w.compared xs k l prios v a wait p;
+          blocks = wake-blocks w.request w.compared xs k l prios v a wait ∙ sym made.blocks;
+          noded = subst (λ (ts : List Task). IsNoded ts (lists_after prios ks l).pend) (sym made.tasks) (wake-nodes w.request w.compared xs k l prios v a wait);
+          listed = λ y. wake-prios w.request w.compared xs k l prios v a wait p y ∙ sym (ap (λ (ts : List Task). (task_in ts y).prio) made.tasks);
         } in
-        subst (λ e. AreLinksOf e (length k.objects) prios (wakes_links k.tasks q.compared.0 q.woken.items) l) (sym made) (subst (λ ks. AreLinksOf (ends_waits w.request.service w.request w.compared xs k) (length k.objects) prios ks l) (sym links) all)
+        subst (λ js. AreLinksOf f (length k.objects) prios js l) (sym links) all
 
     links-flags : w.request.service ≡ FlagPost → q.woken.items ≡ ws → q.bits ≡ planned_bits (Wake Matching) w.request w.caller k → AreLinksOf (what (Wake Matching)) (length k.objects) prios (matching_links k.tasks q.bits q.compared.0 q.woken.items) l
     links-flags s is same =
@@ -136,11 +140,24 @@ module _ (w : WorkRecord) (q : Plan) (around : Around) (k : Kernel) (l : Lists) 
     links-decided Block e s os is bits = links-block e s os
     links-decided (Wake First) e s os is bits =
         links-wake (chosen false ws) (what (Wake First)) (AllWait-chosen k false ws (AllWait-waiters w.request w.caller k v)) is
-        (plain-wake w.request.service _ _ s ∙ ap (ends_waits w.request.service w.request w.compared (chosen false ws)) (own-wake First w.request w.caller k s))
+        (is-waking First w.request w.caller w.compared (chosen false ws) k s)
     links-decided (Wake Every) e s os is bits =
         links-wake ws (what (Wake Every)) (AllWait-waiters w.request w.caller k v) is
-        (plain-wake w.request.service _ _ (all-posts w.request.service s) ∙ ap (ends_waits w.request.service w.request w.compared ws) (own-wake Every w.request w.caller k (all-posts w.request.service s)))
+        (is-waking Every w.request w.caller w.compared ws k (all-posts w.request.service s))
     links-decided (Wake Matching) e s os is bits = links-flags s is bits
+
+-- a caller that is to wait has no match yet
+pub caller-unmatched : (w : WorkRecord) (q : Plan) (around : Around) (k : Kernel) (s : StepsRecord) → IsLinked k → IsInHand w q around k s → q.decision ≡ Block → IsUnmatched w.caller k.matches
+caller-unmatched w q around k s v h e =
+    let plan = h.planned in
+    let served : is_served_wait w.request.service ≡ true = subst (λ (d : Decision). IsServedDecision d w.request.service) e plan.served in
+    let lock = equal k.lock 0 (not_false (k.lock == 0) (sym plan.around.locked ∙ unlocked w.request around k (sym e ∙ plan.decision) served)) in
+    let ready = (caller_ready k v w.caller (may-call w k h.may (wait-posts w.request.service served)) lock).1 in
+    let t = task_at k w.caller in
+    let waits : waits_for_nothing t.waiting ≡ true = and_first (waits_for_nothing t.waiting) (is_zero t.suspended) (and_second t.alive (waits_for_nothing t.waiting && is_zero t.suspended) ready) in
+    let once = v.matches.once_matched w.caller in
+    let none : count_of w.caller (matched k.matches) ≤ 0 = rw waits at once in
+    omega (arith, none)
 
 -- a step begins with micro-steps
 pub some-steps : (e : Effect) (k : Kernel) → 0 < cost e k

@@ -13,10 +13,7 @@ use Rattle.micro_steps.specs.Blocks.{no_prio, prio_in}
 use Rattle.micro_steps.specs.Whole.{AreFit, lists_after, task_blocks}
 use Rattle.link_plans.specs.Fits.{AreKernels, IsNoded}
 use Rattle.link_plans.specs.Plans.{block_links}
-use Rattle.link_plans.proofs.BlockFits.{block_fits}
-use Rattle.link_plans.proofs.Follows.{block_keeps_prios}
-use Rattle.link_plans.proofs.NodeKeeps.{block_keeps}
-use Rattle.link_plans.proofs.Rows.{block-row}
+use Rattle.link_plans.proofs.Lemmas.{block_fits, block_keeps_prios, block_keeps, block-row}
 use Rattle.kernel_calls.specs.Stepping.{HasPrios, prios_over}
 use Rattle.kernel_calls.proofs.LinkFacts.{over-past}
 use Rattle.kernel_records.proofs.WaitFacts.{AreObjects}

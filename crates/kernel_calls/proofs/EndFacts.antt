@@ -10,22 +10,20 @@ use Rattle.kern_model.specs.Micro.{Halves, Lists, is_filled, lists_of, whole}
 use Rattle.kern_model.specs.Call.{call_of}
 use Rattle.kern_model.specs.Effect.{Effect}
 use Rattle.kern_model.specs.Served.{program_serves}
-use Rattle.kern_model.specs.Services.{blocks, content_for, cost, half}
+use Rattle.kern_model.specs.Services.{blocks, cost, half}
 use Rattle.kern_model.specs.Valid.{IsLinked}
-use Rattle.kern_model.proofs.Lemmas.{linked-effect}
-use Rattle.kern_model.proofs.Halves.Services.{half-effect}
-use Rattle.kern_laws.proofs.ObjectKinds.Calls.{kinds-effect}
+use Rattle.kern_model.proofs.Lemmas.{linked-effect, half-effect}
+use Rattle.kern_laws.proofs.Lemmas.{kinds-effect}
 use Rattle.std.proofs.lemmas.List.{length-map}
 use Rattle.micro_steps.specs.Halfway.{seen, seen_lists}
 use Rattle.micro_steps.specs.Whole.{IsPaused, StepsRecord}
 use Rattle.link_plans.specs.Plans.{links_left}
 use Rattle.link_plans.specs.declared.plan.Plan.{Plan}
 use Rattle.kernel_records.specs.RecordsRecord.{RecordsRecord, with_lists, without_lists}
-use Rattle.decisions.specs.Decided.{bits_in}
-use Rattle.kernel_records.specs.Deciding.{waiters_of}
-use Rattle.kernel_records.specs.Concluding.{bits_left, concluded, outcome_of, woken_of}
+use Rattle.kernel_records.specs.Deciding.{own_change, waiters_of}
+use Rattle.kernel_records.specs.Concluding.{concluded, outcome_of, woken_of}
 use Rattle.kernel_records.specs.Served.{IsServed}
-use Rattle.kernel_records.proofs.ConcludingFacts.{concluded-bare, has-outcome, is-concluded, own-bare}
+use Rattle.kernel_records.proofs.ConcludingFacts.{concluded-bare, has-outcome, is-concluded, outcome-bare, own-bare}
 use Rattle.kernel_calls.specs.Works.{WorkRecord, effect_of}
 use Rattle.kernel_calls.specs.Stepping.{AreNodes, HasPrios, IsInHand, IsResting, prios_over}
 use Rattle.kernel_calls.specs.KernelView.{IsSound, state_with}
@@ -112,14 +110,15 @@ module _ (w : WorkRecord) (q : Plan) (around : Around) (rs : Kernel) (start : Li
         (ap without_lists e ∙ concluded-bare q.decision w.request w.caller (woken_of q.decision (waiters_of w.request w.caller before)) rs ∙ records-made)
         (ap (λ n. seen_lists n s.halves.forward) (sym objects-made) ∙ forward-made)
 
-    bits-made : bits_left w.request w.caller q.decision rs ≡ bits_left w.request w.caller q.decision before
-    bits-made =
-        ap (λ (j : Kernel). bits_in (content_for w.request j)) (own-bare w.request w.caller q.decision rs)
-        ∙ sym (ap (λ (j : Kernel). bits_in (content_for w.request j)) (own-bare w.request w.caller q.decision before))
+    own-made : without_lists (own_change w.request w.caller q.decision rs) ≡ without_lists (own_change w.request w.caller q.decision before)
+    own-made = own-bare w.request w.caller q.decision rs ∙ sym (own-bare w.request w.caller q.decision before)
 
-    pub outcome-made : outcome_of q.decision w.request (length (woken_of q.decision (waiters_of w.request w.caller before))) (bits_left w.request w.caller q.decision rs) ≡ made.outcome
+    pub outcome-made : outcome_of q.decision w.request (woken_of q.decision (waiters_of w.request w.caller before)) (own_change w.request w.caller q.decision rs) ≡ made.outcome
     outcome-made =
-        ap (outcome_of q.decision w.request (length (woken_of q.decision (waiters_of w.request w.caller before)))) bits-made
+        let xs = woken_of q.decision (waiters_of w.request w.caller before) in
+        outcome-bare q.decision w.request xs (own_change w.request w.caller q.decision rs)
+        ∙ ap (outcome_of q.decision w.request xs) own-made
+        ∙ sym (outcome-bare q.decision w.request xs (own_change w.request w.caller q.decision before))
         ∙ sym (has-outcome q.decision w.request w.caller w.compared (waiters_of w.request w.caller before) before h.planned.served)
         ∙ ap (λ (e : Effect). e.outcome) (sym h.planned.effect)
 
@@ -128,10 +127,10 @@ pub same-concluded : (d e : Decision) (r u : Request) (x y : ℕ) (xs ys : List 
 same-concluded d e r u x y xs ys k a b c f =
     ap (λ i. concluded i r x xs k) a ∙ ap (λ i. concluded e i x xs k) b ∙ ap (λ i. concluded e u i xs k) c ∙ ap (λ i. concluded e u y i k) f
 
-pub same-outcome : (d e : Decision) (r u : Request) (x y : ℕ) (xs ys : List ℕ) (k : Kernel) → d ≡ e → r ≡ u → x ≡ y → xs ≡ ys → outcome_of d r (length xs) (bits_left r x d k) ≡ outcome_of e u (length ys) (bits_left u y e k)
+pub same-outcome : (d e : Decision) (r u : Request) (x y : ℕ) (xs ys : List ℕ) (k : Kernel) → d ≡ e → r ≡ u → x ≡ y → xs ≡ ys → outcome_of d r xs (own_change r x d k) ≡ outcome_of e u ys (own_change u y e k)
 same-outcome d e r u x y xs ys k a b c f =
-    ap (λ i. outcome_of i r (length xs) (bits_left r x i k)) a ∙ ap (λ i. outcome_of e i (length xs) (bits_left i x e k)) b
-    ∙ ap (λ i. outcome_of e u (length xs) (bits_left u i e k)) c ∙ ap (λ (zs : List ℕ). outcome_of e u (length zs) (bits_left u y e k)) f
+    ap (λ i. outcome_of i r xs (own_change r x i k)) a ∙ ap (λ i. outcome_of e i xs (own_change i x e k)) b
+    ∙ ap (λ i. outcome_of e u xs (own_change u i e k)) c ∙ ap (λ (zs : List ℕ). outcome_of e u zs (own_change u y e k)) f
 
 -- what is sound at the last micro-step stays so once what was decided is made
 pub sound-end : (w v : WorkRecord) (q p : Plan) (around : Around) (r n : RecordsRecord) (s0 s t : StepsRecord) (i : IsSound r s0 q around w true)

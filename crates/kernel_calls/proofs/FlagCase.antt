@@ -9,11 +9,11 @@ use Rattle.micro_steps.specs.Blocks.{prio_in}
 use Rattle.micro_steps.specs.Whole.{AreFit, lists_after, task_blocks}
 use Rattle.link_plans.specs.Fits.{AreKernels, IsNoded}
 use Rattle.link_plans.specs.Plans.{matching_links}
-use Rattle.link_plans.proofs.MatchLaws.{matching-row, matching_fit, matching_keep, matching_keep_prios, prio-matching}
-use Rattle.link_plans.proofs.NodeLaws.{waiter_can_wake}
+use Rattle.link_plans.proofs.Lemmas.{matching-row, matching_fit, matching_keep, matching_keep_prios, prio-matching, waiter_can_wake}
 use Rattle.kernel_calls.specs.Stepping.{HasPrios, prios_over}
 use Rattle.kernel_calls.proofs.LinkFacts.{over-past}
-use Rattle.kernel_calls.proofs.OwnChanges.{beside, flag_blocks-beside, flag_wakes-beside}
+use Rattle.kernel_records.proofs.RowFacts.{beside}
+use Rattle.kernel_calls.proofs.OwnChanges.{flag_blocks-beside, flag_wakes-beside}
 use Rattle.kernel_calls.proofs.WakeCase.{once-waiting, one-waiting}
 
 module _ (bits h : ℕ) (xs : List ℕ) (k : Kernel) (l : Lists) (prios : List Prio) (v : IsLinked k) (a : AreKernels k l) (w : AllWait k xs) where

@@ -14,7 +14,7 @@ use Rattle.micro_steps.specs.Whole.{AreFit, lists_after, prios_after, task_block
 use Rattle.link_plans.specs.Plans.{block_links, decision_left, links_left, matching_left, matching_links, wakes_left, wakes_links}
 use Rattle.link_plans.specs.Renewals.{prios_past}
 use Rattle.link_plans.specs.declared.plan.Plan.{Plan}
-use Rattle.link_plans.proofs.PlanFacts.{matching_begun, wakes_begun}
+use Rattle.link_plans.proofs.Lemmas.{matching_begun, wakes_begun}
 use Rattle.kernel_calls.specs.Stepping.{prios_over}
 
 -- the links before the end of the step

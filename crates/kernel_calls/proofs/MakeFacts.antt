@@ -3,7 +3,7 @@ use Rattle.std.proofs.Common.{Bool, ◌≡◌, ◌<◌, ℕ, zero, suc, ◌+◌,
 use Rattle.std.proofs.lemmas.List.{append-nil, length-append, length-map, length-take, length-drop}
 use Rattle.kern_base.specs.declared.numbers.Prio.{Prio}
 use Rattle.kern_model.specs.Micro.{Block, Halves, Lists, Micro, after, changed_all, in_order, is_filled, leave, plain, readied_at, unready, wait, whole}
-use Rattle.kern_model.proofs.Halves.Blocks.{Does, does_leave, does_plain, does_readied_at, does_unready, does_wait}
+use Rattle.kern_model.proofs.Lemmas.{Does, does_leave, does_plain, does_readied_at, does_unready, does_wait}
 use Rattle.micro_steps.specs.declared.link.Link.{Link}
 use Rattle.micro_steps.specs.declared.link.Link.TheVariants as link
 use Rattle.micro_steps.specs.Blocks.{block_of, place_at, prio_in, rest}

@@ -3,7 +3,7 @@ use Rattle.std.specs.Prelude.{if◌then◌else◌, ◌==◌, ◌-◌, ◌+◌, �
 use Rattle.std.proofs.Common.{◌≡◌, ℕ, List, [], ◌∷◌, refl, Bool, true, false, Option, Some, None}
 use Rattle.std.proofs.lemmas.Bool.{false≢true}
 use Rattle.kern_base.specs.declared.services.Service.{Service}
-use Rattle.kern_base.specs.declared.services.Service.TheVariants.{SemPost, QPost, FlagPost, TaskSemPost, TaskQPost, SemPend, QPend, FlagPend, TaskSemPend, TaskQPend}
+use Rattle.kern_base.specs.declared.services.Service.TheVariants.{SemPost, QPost, FlagPost, TaskSemPost, TaskQPost, SemPend, QPend, FlagPend, TaskSemPend, TaskQPend, SchedLock, SchedUnlock, TimeGet, TimeDly, TimeDlyResume, SemPendAbort, QPendAbort, FlagPendAbort, TaskSemPendAbort, TaskQPendAbort, SemDel, QDel, FlagDel}
 use Rattle.kern_base.specs.declared.requests.Request.{Request}
 use Rattle.kern_base.specs.declared.errors.OsErr.{OsErr}
 use Rattle.kern_base.specs.declared.errors.OsErr.TheVariants.{SemOverflow, CallUnknown}
@@ -87,6 +87,19 @@ plain-perform QPend call k e p = absurd (false≢true p)
 plain-perform FlagPend call k e p = absurd (false≢true p)
 plain-perform TaskSemPend call k e p = absurd (false≢true p)
 plain-perform TaskQPend call k e p = absurd (false≢true p)
+plain-perform SchedLock call k e p = absurd (false≢true p)
+plain-perform SchedUnlock call k e p = absurd (false≢true p)
+plain-perform TimeGet call k e p = absurd (false≢true p)
+plain-perform TimeDly call k e p = absurd (false≢true p)
+plain-perform TimeDlyResume call k e p = absurd (false≢true p)
+plain-perform SemPendAbort call k e p = absurd (false≢true p)
+plain-perform QPendAbort call k e p = absurd (false≢true p)
+plain-perform FlagPendAbort call k e p = absurd (false≢true p)
+plain-perform TaskSemPendAbort call k e p = absurd (false≢true p)
+plain-perform TaskQPendAbort call k e p = absurd (false≢true p)
+plain-perform SemDel call k e p = absurd (false≢true p)
+plain-perform QDel call k e p = absurd (false≢true p)
+plain-perform FlagDel call k e p = absurd (false≢true p)
 plain-perform _ call k e p = absurd (false≢true e)
 
 plain-checked : (o : Option OsErr) (call : Call) (k : Kernel) → program_serves call.request.service ≡ true → is_post call.request.service ≡ true → Plain (after_checks o call k)

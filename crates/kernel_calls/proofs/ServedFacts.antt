@@ -2,7 +2,7 @@
 use Rattle.std.proofs.Common.{◌≡◌, ℕ, inl, inr, ◌<◌, List, [], ◌∷◌, get_or, Option, Some, None, refl, sym, ap, ◌∙◌, subst, true, false}
 use Rattle.std.proofs.lemmas.Bool.Decides.{leb_tells}
 use Rattle.kern_base.specs.declared.services.Service.{Service}
-use Rattle.kern_base.specs.declared.services.Service.TheVariants.{FlagPend, TaskSemPend, TaskQPend}
+use Rattle.kern_base.specs.declared.services.Service.TheVariants.{FlagPend, TaskSemPend, TaskQPend, TimeDly}
 use Rattle.kern_base.specs.declared.requests.Request.{Request}
 use Rattle.kern_base.specs.declared.outcomes.Answer.{Answer}
 use Rattle.kern_base.specs.declared.outcomes.Decision.{Decision}
@@ -22,9 +22,9 @@ use Rattle.decisions.specs.Decided.{bits_in, decided, ending_of, handed, wait_of
 use Rattle.kernel_records.specs.Deciding.{IsServedDecision, own_change}
 use Rattle.kernel_records.specs.Concluding.{handing}
 use Rattle.kernel_records.specs.Served.{HasNoTable, IsServed, IsSingle}
-use Rattle.kernel_records.proofs.ConcludingFacts.{all-posts, handing-single, plain-flags, plain-wait, plain-wake}
-use Rattle.kernel_records.proofs.RowFacts.{own-block, own-wake}
-use Rattle.kernel_calls.proofs.OwnChanges.{beside, flag_wakes-beside, free_posted, objects_posted, own-flags, own-keeps}
+use Rattle.kernel_records.proofs.ConcludingFacts.{all-posts, handing-single, plain-flags, plain-wait}
+use Rattle.kernel_records.proofs.RowFacts.{beside, own-block}
+use Rattle.kernel_calls.proofs.OwnChanges.{flag_wakes-beside, free_posted, is-waking, objects_posted, own-flags, own-keeps, waking}
 use Rattle.kernel_calls.proofs.WaiterFacts.{IsIdleWait, internal-wait}
 
 -- one task changed
@@ -83,12 +83,21 @@ served-own r x d k s =
       reads = λ y. subst HasNoTable (sym (own-keeps (λ (t : Task). t.answered) (λ t n ms. refl) r x d k y)) (s.reads y);
     }
 
--- a caller waits for one object, or for its own semaphore or queue
-single-wait : (s : Service) (r : Request) → IsSingle (wait_of s r).waiting
-single-wait FlagPend r = tt
-single-wait TaskSemPend r = tt
-single-wait TaskQPend r = tt
-single-wait _ r = tt
+-- a caller waits for one object, for its own semaphore or queue, or for a tick
+single-wait : (s : Service) (r : Request) (ticks : ℕ) → IsSingle (wait_of s r ticks).waiting
+single-wait FlagPend r ticks = tt
+single-wait TaskSemPend r ticks = tt
+single-wait TaskQPend r ticks = tt
+single-wait TimeDly r ticks = tt
+single-wait _ r ticks = tt
+
+-- it is known of the tasks alone
+served-tasks : (k j : Kernel) → j.tasks ≡ k.tasks → IsServed k → IsServed j
+served-tasks k j e s =
+    record {
+      waits = λ x h. subst (λ (ts : List Task). IsSingle (get_or ts x no_task).waiting) (sym e) (s.waits x h);
+      reads = λ x. subst (λ (ts : List Task). HasNoTable (get_or ts x no_task).answered) (sym e) (s.reads x);
+    }
 
 -- what was decided
 pub served-decided : (d : Decision) (r : Request) (x h : ℕ) (xs : List ℕ) (k : Kernel) → IsServedDecision d r.service → AllWait k xs → IsServed k → IsServed (decided d r.service r x h xs (own_change r x d k)).kernel
@@ -96,14 +105,12 @@ served-decided (Done a) r x h xs k d w s = served-own r x (Done a) k s
 served-decided Block r x h xs k d w s =
     subst (λ (j : Kernel). IsServed (decided Block r.service r x h xs j).kernel) (sym (own-block r x k d))
     (subst (λ (e : Effect). IsServed e.kernel) (sym (plain-wait r.service _ d))
-    (served-task k (blocked k x (wait_of r.service r)) x (waiting_task (wait_of r.service r)) refl (λ i. single-wait r.service r) (s.reads x) s))
+    (served-task k (blocked k x (wait_of r.service r k.ticks)) x (waiting_task (wait_of r.service r k.ticks)) refl (λ i. single-wait r.service r k.ticks) (s.reads x) s))
 served-decided (Wake First) r x h xs k d w s =
-    subst (λ (j : Kernel). IsServed (decided (Wake First) r.service r x h xs j).kernel) (sym (own-wake First r x k d))
-    (subst (λ (e : Effect). IsServed e.kernel) (sym (plain-wake r.service _ _ d)) (served-wakes r h (chosen false xs) k (AllWait-chosen k false xs w) s))
+    let ws = chosen false xs in
+    served-tasks (wakes_all (handing r) h ws k) (waking First r x h ws k).kernel (is-waking First r x h ws k d).tasks (served-wakes r h ws k (AllWait-chosen k false xs w) s)
 served-decided (Wake All) r x h xs k d w s =
-    let post = all-posts r.service d in
-    subst (λ (j : Kernel). IsServed (decided (Wake All) r.service r x h xs j).kernel) (sym (own-wake All r x k post))
-    (subst (λ (e : Effect). IsServed e.kernel) (sym (plain-wake r.service _ _ post)) (served-wakes r h xs k w s))
+    served-tasks (wakes_all (handing r) h xs k) (waking All r x h xs k).kernel (is-waking All r x h xs k (all-posts r.service d)).tasks (served-wakes r h xs k w s)
 served-decided (Wake Matching) r x h xs k d w s =
     let os = objects_posted r k in
     let free = free_posted r k in

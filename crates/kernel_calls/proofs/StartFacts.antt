@@ -15,8 +15,7 @@ use Rattle.kern_base.specs.declared.outcomes.Around.{Around}
 use Rattle.kern_model.specs.Micro.{Halves, Lists, after, whole}
 use Rattle.kern_model.specs.Start.{object_of, ready_from, start_state, start_tasks, tasks_of}
 use Rattle.kern_model.specs.Valid.{IsLinked}
-use Rattle.kern_laws.proofs.Start.Linked.{each}
-use Rattle.kern_laws.proofs.Start.Valid.{valid-start}
+use Rattle.kern_laws.proofs.Lemmas.{each, valid-start}
 use Rattle.links.specs.Chain.{times, total, list_at}
 use Rattle.micro_steps.specs.declared.link.Link.TheVariants as link
 use Rattle.micro_steps.specs.Blocks.{block_of}

@@ -5,18 +5,20 @@ use Rattle.std.proofs.lemmas.Bool.{true≢false}
 use Rattle.std.proofs.lemmas.Bool.Decides.{eqb_tells, leb_tells}
 use Rattle.std.proofs.lemmas.List.{get_or_past}
 use Rattle.kern_base.specs.declared.services.Service.{Service}
-use Rattle.kern_base.specs.declared.services.Service.TheVariants.{TaskQPost, TaskQPend, TaskQPendAbort}
+use Rattle.kern_base.specs.declared.services.Service.TheVariants.{TaskQPost, TaskQPend, TaskQPendAbort, TimeDlyResume}
 use Rattle.kern_base.specs.declared.requests.Request.{Request}
 use Rattle.kern_base.specs.declared.outcomes.Waiting.{Waiting}
 use Rattle.kern_base.specs.declared.outcomes.Waiting.TheVariants.{No, Delay, Obj, TaskSem, TaskQ, Multi, Signal}
 use Rattle.kern_model.specs.State.{Kernel, Task, no_task, task_at, is_zero, waits_for_nothing}
-use Rattle.kern_model.specs.Checks.{argument}
+use Rattle.kern_model.specs.Checks.{argument, named_task}
 use Rattle.kern_model.specs.TaskObjects.{waits_for_queue, waits_for_semaphore}
 use Rattle.kern_model.specs.Valid.{AllWait, IsLinked}
 use Rattle.kern_model.proofs.Lemmas.{AllWait-pend, and_first, and_second}
 use Rattle.task_objects.specs.Rows.{is_task_call, target, waits_for_it}
+use Rattle.tick_timers.specs.Delays.{is_delayed}
 use Rattle.kernel_records.specs.Deciding.{waiters_of}
-use Rattle.kernel_records.proofs.RowFacts.{waiters-object, waiters-task}
+use Rattle.kernel_records.specs.SchedulerCalls.{is_scheduler_call, scheduler_waiters}
+use Rattle.kernel_records.proofs.RowFacts.{waiters-object, waiters-scheduler, waiters-task}
 
 -- the waits of tasks other than the application's
 abbrev pub IsIdleWait : Waiting → Type 0
@@ -82,20 +84,40 @@ own-waits TaskQPend w h = own-queue w h
 own-waits TaskQPendAbort w h = own-queue w h
 own-waits _ w h = own-semaphore w h
 
-AllWait-if : (b : Bool) (s : Service) (y : ℕ) (k : Kernel) → IsLinked k → waits_for_it s (task_at k y).waiting ≡ b → AllWait k (if b then y ∷ [] else [])
-AllWait-if false s y k v e = tt
-AllWait-if true s y k v e =
-    let waits = own-waits s (task_at k y).waiting e in
+-- a task in a delay
+delay-waits : (w : Waiting) → is_delayed w ≡ true → (waits_for_nothing w ≡ false) × (IsIdleWait w → ⊥)
+delay-waits Delay h = (refl, λ i. i)
+delay-waits _ h = absurd (true≢false (sym h))
+
+-- one task, where it waits
+AllWait-one : (y : ℕ) (k : Kernel) → IsLinked k → (waits_for_nothing (task_at k y).waiting ≡ false) × (IsIdleWait (task_at k y).waiting → ⊥) → AllWait k (y ∷ [])
+AllWait-one y k v waits =
     elim (leb_tells 60 y) [
       | inl d ↦ absurd (waits.1 (internal-wait k v y d.1))
       | inr d ↦ (d.1, waits.0, refl, tt)
     ]
 
-AllWait-by : (b : Bool) (r : Request) (x : ℕ) (k : Kernel) → IsLinked k → is_task_call r.service ≡ b → AllWait k (waiters_of r x k)
-AllWait-by true r x k v t =
+AllWait-if : (b : Bool) (s : Service) (y : ℕ) (k : Kernel) → IsLinked k → waits_for_it s (task_at k y).waiting ≡ b → AllWait k (if b then y ∷ [] else [])
+AllWait-if false s y k v e = tt
+AllWait-if true s y k v e = AllWait-one y k v (own-waits s (task_at k y).waiting e)
+
+AllWait-delayed : (b : Bool) (y : ℕ) (k : Kernel) → IsLinked k → is_delayed (task_at k y).waiting ≡ b → AllWait k (if b then y ∷ [] else [])
+AllWait-delayed false y k v e = tt
+AllWait-delayed true y k v e = AllWait-one y k v (delay-waits (task_at k y).waiting e)
+
+AllWait-scheduler : (s : Service) (r : Request) (x : ℕ) (k : Kernel) → IsLinked k → AllWait k (scheduler_waiters s r x k)
+AllWait-scheduler TimeDlyResume r x k v = let y = named_task r x in AllWait-delayed (is_delayed (task_at k y).waiting) y k v refl
+AllWait-scheduler _ r x k v = tt
+
+AllWait-objects : (b : Bool) (r : Request) (x : ℕ) (k : Kernel) → IsLinked k → is_scheduler_call r.service ≡ false → is_task_call r.service ≡ b → AllWait k (waiters_of r x k)
+AllWait-objects true r x k v n t =
     let y = target r.service r x in
-    subst (AllWait k) (sym (waiters-task r x k t)) (AllWait-if (waits_for_it r.service (task_at k y).waiting) r.service y k v refl)
-AllWait-by false r x k v t = subst (AllWait k) (sym (waiters-object r x k t)) (AllWait-pend k v (argument r 0))
+    subst (AllWait k) (sym (waiters-task r x k n t)) (AllWait-if (waits_for_it r.service (task_at k y).waiting) r.service y k v refl)
+AllWait-objects false r x k v n t = subst (AllWait k) (sym (waiters-object r x k n t)) (AllWait-pend k v (argument r 0))
+
+AllWait-by : (b : Bool) (r : Request) (x : ℕ) (k : Kernel) → IsLinked k → is_scheduler_call r.service ≡ b → AllWait k (waiters_of r x k)
+AllWait-by true r x k v n = subst (AllWait k) (sym (waiters-scheduler r x k n)) (AllWait-scheduler r.service r x k v)
+AllWait-by false r x k v n = AllWait-objects (is_task_call r.service) r x k v n refl
 
 pub AllWait-waiters : (r : Request) (x : ℕ) (k : Kernel) → IsLinked k → AllWait k (waiters_of r x k)
-AllWait-waiters r x k v = AllWait-by (is_task_call r.service) r x k v refl
+AllWait-waiters r x k v = AllWait-by (is_scheduler_call r.service) r x k v refl

@@ -8,16 +8,12 @@ use Rattle.kern_model.specs.State.{Kernel, count_of, prio_of, task_at, waits_for
 use Rattle.kern_model.specs.Micro.{Lists}
 use Rattle.kern_model.specs.Effect.{wakes, wakes_all, wakes_blocks}
 use Rattle.kern_model.specs.Valid.{AllWait, IsLinked}
-use Rattle.kern_model.proofs.Basics.Updates.{objects-wakes, prio_of-wakes}
+use Rattle.kern_model.proofs.Lemmas.{objects-wakes, prio_of-wakes}
 use Rattle.micro_steps.specs.Blocks.{prio_in}
 use Rattle.micro_steps.specs.Whole.{AreFit, lists_after, task_blocks}
 use Rattle.link_plans.specs.Fits.{AreKernels, IsNoded}
 use Rattle.link_plans.specs.Plans.{wakes_links}
-use Rattle.link_plans.proofs.Follows.{wakes_keep_prios}
-use Rattle.link_plans.proofs.NodeKeeps.{wakes_keep}
-use Rattle.link_plans.proofs.NodeLaws.{waiter_can_wake}
-use Rattle.link_plans.proofs.Rows.{wakes-row}
-use Rattle.link_plans.proofs.WakeKeeps.{all_wakes_fit}
+use Rattle.link_plans.proofs.Lemmas.{wakes_keep_prios, wakes_keep, waiter_can_wake, wakes-row, all_wakes_fit}
 use Rattle.kernel_records.specs.Concluding.{handing}
 use Rattle.kernel_calls.specs.Stepping.{HasPrios, prios_over}
 use Rattle.kernel_calls.proofs.LinkFacts.{over-past}

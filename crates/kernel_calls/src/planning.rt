@@ -4,16 +4,17 @@ ghost use Rattle.std.specs.Prelude.{◌≡◌, ◌<◌, ℕ, List, [], All, true
 ghost use Rattle.kern_model.specs.State.{list_at};
 ghost use Rattle.micro_steps.specs.Halfway.{tasks_in};
 ghost use Rattle.decisions.specs.Around.{first_waiter};
-ghost use Rattle.decisions.specs.Decided.{wait_of};
+ghost use Rattle.decisions.specs.Decided.{wait_objects};
 ghost use Rattle.task_objects.specs.Rows.{is_task_call};
 ghost use Rattle.kernel_records.specs.Concluding.{objects_waited, woken_of};
 ghost use Rattle.kernel_records.specs.Deciding.{IsServedDecision};
+ghost use Rattle.kernel_records.specs.SchedulerCalls.{is_scheduler_call};
 ghost use Rattle.kernel_records.specs.Served.{is_served_wait};
 ghost use Rattle.kernel_calls.specs.Stepping.{planned_bits};
 
 use arrayvec::ArrayVec;
 use kern_base::{Around, Decision, ObjId, Prio, Request, TaskId, Who};
-use kernel_records::{Records, is_task_call};
+use kernel_records::{Records, is_scheduler_call, is_task_call};
 use link_plans::Plan;
 use links::Links;
 use pend_lists::PendLists;
@@ -73,7 +74,7 @@ pub(crate) fn plan_call<L: Links>(
     ensures caller { plan.new.caller ≡ seen.now.caller }
     ensures compared { plan.new.compared ≡ compared }
     ensures woken { (xs : List ℕ) → seen.now.first ≡ first_waiter xs
-        → (is_task_call request.now.service ≡ false → xs ≡ list_at (tasks_in pend.now.forward) (slice_index request.now.args 0))
+        → (is_scheduler_call request.now.service ≡ false → is_task_call request.now.service ≡ false → xs ≡ list_at (tasks_in pend.now.forward) (slice_index request.now.args 0))
         → plan.new.woken.items ≡ woken_of decision xs }
     ensures objects { plan.new.objects.items ≡ objects_waited decision request.now }
     ensures fresh { (plan.new.bits ≡ 0) × (plan.new.task ≡ 0) × (plan.new.made ≡ 0) × (plan.new.ended ≡ false) }
@@ -103,14 +104,14 @@ pub(crate) fn plan_call<L: Links>(
     }
 }
 
-// The objects for which the caller waits: a wait for its own semaphore or queue is in the list of none.
+// The objects for which the caller waits: a delay, or a wait for its own semaphore or queue, is in the list of none.
 fn plan_wait(objects: &mut ArrayVec<u8, 8>, request: &Request)
     requires service { is_served_wait request.now.service ≡ true }
-    requires objects { All (λ o. o < 64) (wait_of request.now.service request.now).objects }
+    requires objects { All (λ o. o < 64) (wait_objects request.now.service request.now) }
     requires empty { objects.old.items ≡ [] }
-    ensures { objects.new.items ≡ (wait_of request.now.service request.now).objects }
+    ensures { objects.new.items ≡ wait_objects request.now.service request.now }
 {
-    if !is_task_call(request.service) {
+    if !is_scheduler_call(request.service) && !is_task_call(request.service) {
         objects.push(request.args[0] as u8);
     }
 }

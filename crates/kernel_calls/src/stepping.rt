@@ -1,6 +1,6 @@
 // Whole steps, one micro-step a call.
 
-ghost use Rattle.std.specs.Prelude.{◌≡◌, ◌<◌, ◌+◌, None, Some};
+ghost use Rattle.std.specs.Prelude.{◌≡◌, ◌<◌, ◌+◌, true, false, None, Some};
 ghost use Rattle.kern_base.specs.declared.outcomes.Outcome.TheVariants.{Answered};
 ghost use Rattle.decisions.specs.Around.{IsAround, first_waiter};
 ghost use Rattle.kernel_records.specs.Deciding.{waiters_of};
@@ -14,7 +14,7 @@ use crate::kernels::Kernel;
 use crate::planning::{first_waiter, plan_call, planned_bits};
 use crate::work::HANDLER;
 use kern_base::{Answer, Around, Outcome, Post, Prio, Request, TaskId};
-use kernel_records::is_task_call;
+use kernel_records::{is_scheduler_call, is_task_call};
 use links::Links;
 use micro_steps::Link;
 
@@ -42,12 +42,12 @@ fn request_of(post: Post) -> Request
 }
 
 // The answer of a post.
-fn answer_of(outcome: Outcome) -> Answer
-    requires { IsPlainAnswer outcome }
-    ensures { outcome ≡ Answered result None }
+fn answer_of(outcome: &Outcome) -> Answer
+    requires { IsPlainAnswer outcome.now }
+    ensures { outcome.now ≡ Answered result None }
 {
     match outcome {
-        Outcome::Answered(answer, _) => answer,
+        Outcome::Answered(answer, _) => *answer,
         _ => unreachable!(),
     }
 }
@@ -113,7 +113,9 @@ impl<L: Links> Kernel<L> {
         requires free { self.now.hand ≡ None }
         ensures { result ≡ first_waiter (waiters_of request.now caller.0 self.now.state) }
     {
-        if is_task_call(request.service) {
+        if is_scheduler_call(request.service) {
+            self.records.delayed_task(request, caller)
+        } else if is_task_call(request.service) {
             self.records.own_waiter(request, caller)
         } else {
             first_waiter(self.steps.chains().pend(), request.args[0])
@@ -134,25 +136,49 @@ impl<L: Links> Kernel<L> {
         ensures open_yet { IsOpen self.old.hand self.old.state }
         ensures valid { IsLinked self.new.state }
     {
+        let mut outcome = Outcome::Waits;
+        if self.advance_into(&mut outcome) {
+            Progress::Done(outcome)
+        } else {
+            Progress::More
+        }
+    }
+
+    /// One micro-step of the step in hand. True where it was the last one, which makes the whole change; what the step came to is
+    /// then written over an older outcome, whatever that was.
+    pub fn advance_into(&mut self, outcome: &mut Outcome) -> bool
+        requires busy { (w : WorkRecord) × (self.old.hand ≡ Some w) }
+
+        // Micro-steps are left: nothing but the lists has changed.
+        ensures more { (w : WorkRecord) → self.old.hand ≡ Some w → w.done + 1 < cost (effect_of w self.old.state) self.old.state
+            → (result ≡ false) × (self.new ≡ record self.old { hand = Some (stepped w) }) }
+
+        // The last one.
+        ensures done { (w : WorkRecord) → self.old.hand ≡ Some w → w.done + 1 ≡ cost (effect_of w self.old.state) self.old.state
+            → (result ≡ true) × (outcome.new ≡ (effect_of w self.old.state).outcome) × (self.new ≡ ended self.old w) }
+        ensures open_yet { IsOpen self.old.hand self.old.state }
+        ensures valid { IsLinked self.new.state }
+    {
         self.work.count();
         if !self.steps.step() {
-            return Progress::More;
+            return false;
         }
         match self.plan.next_link(self.records.tasks()) {
             Some(link) => {
                 self.steps.take(link);
-                Progress::More
+                false
             }
             None => {
-                let outcome = self.records.conclude(
+                self.records.conclude(
                     self.work.request(),
                     &self.seen,
                     &self.plan.decision,
                     self.plan.woken.as_slice(),
+                    outcome,
                 );
                 self.steps.close();
                 self.busy = false;
-                Progress::Done(outcome)
+                true
             }
         }
     }
@@ -166,11 +192,8 @@ impl<L: Links> Kernel<L> {
         ensures valid { IsLinked self.new.state }
     {
         self.begin_take(post, compared, compared);
-        loop {
-            match self.advance() {
-                Progress::More => {}
-                Progress::Done(outcome) => return answer_of(outcome),
-            }
-        }
+        let mut outcome = Outcome::Waits;
+        while !self.advance_into(&mut outcome) {}
+        answer_of(&outcome)
     }
 }

@@ -3,7 +3,7 @@ use Rattle.std.proofs.Common.{◌≡◌, ℕ, ◌<◌, List, [], ◌∷◌, ◌+
 use Rattle.std.proofs.lemmas.Bool.{false≢true}
 use Rattle.kern_base.specs.Services.{renews}
 use Rattle.kern_base.specs.declared.services.Service.{Service}
-use Rattle.kern_base.specs.declared.services.Service.TheVariants.{SemPost, QPost, FlagPost, TaskSemPost, TaskQPost, SemPend, QPend, FlagPend, TaskSemPend, TaskQPend}
+use Rattle.kern_base.specs.declared.services.Service.TheVariants.{SemPost, QPost, FlagPost, TaskSemPost, TaskQPost, SemPend, QPend, FlagPend, TaskSemPend, TaskQPend, TimeDly, TimeDlyResume, SemPendAbort, QPendAbort, FlagPendAbort, TaskSemPendAbort, TaskQPendAbort, SemDel, QDel, FlagDel}
 use Rattle.kern_base.specs.declared.requests.Request.{Request}
 use Rattle.kern_base.specs.declared.outcomes.Answer.{Answer}
 use Rattle.kern_base.specs.declared.outcomes.Decision.{Decision}
@@ -15,17 +15,19 @@ use Rattle.kern_base.specs.declared.outcomes.Who.{Who}
 use Rattle.kern_base.specs.declared.outcomes.Who.TheVariants.{First, All, Matching}
 use Rattle.kern_model.specs.State.{Kernel, Task, task_at, update_task}
 use Rattle.kern_model.specs.Micro.{at_head, at_tail}
-use Rattle.kern_model.specs.Effect.{Effect, answered_task, fine, posted_result, posted_to, result_of, unmatched, waited, wakes, wakes_all, chosen}
+use Rattle.kern_model.specs.Effect.{Effect, answered_task, answers, fine, posted_result, posted_to, result_of, unmatched, waited, wakes, wakes_all, chosen}
+use Rattle.kern_model.specs.Checks.{argument}
 use Rattle.kern_model.specs.FlagBits.{ready_bits}
 use Rattle.kern_model.specs.Flags.{flag_wakes, flag_wakes_all}
 use Rattle.kern_model.specs.Services.{content_for}
 use Rattle.kern_model.proofs.Lemmas.{update_task_at}
-use Rattle.decisions.specs.Decided.{bits_in, decided, ending_of, gone_after, handed, handed_result, renewed_after, wait_of}
+use Rattle.decisions.specs.Decided.{Ending, Posted, Aborted, Deleted, bits_in, decided, ending_of, ends_waits, gone_after, gone_by, handed, handed_result, renewed_after, replied}
 use Rattle.task_objects.specs.Rows.{is_task_call}
 use Rattle.kernel_records.specs.RecordsRecord.{without_lists}
-use Rattle.kernel_records.specs.Served.{IsSingle, is_served_post, is_served_wait, may_wake_all}
-use Rattle.kernel_records.specs.Deciding.{IsServedDecision, acts, changed_by, object_change, own_change, task_change}
-use Rattle.kernel_records.specs.Concluding.{AreSingle, HasOutcome, IsConcluded, awakened, awakened_all, awakens, concluded, given, given_ready, handing, looked_at, looked_at_all, waiting_from}
+use Rattle.kernel_records.specs.SchedulerCalls.{is_scheduler_call}
+use Rattle.kernel_records.specs.Served.{IsSingle, is_served_wake, is_served_wait, may_wake_all}
+use Rattle.kernel_records.specs.Deciding.{IsServedDecision, acts, changed_by, changed_objects, object_change, own_change, task_change}
+use Rattle.kernel_records.specs.Concluding.{AreSingle, HasOutcome, IsConcluded, awakened, awakened_all, awakens, concluded, given, given_ready, handing, looked_at, looked_at_all, outcome_of, waiting_in}
 
 -- tasks that are woken, in the records
 pub wakes-awakened : (r : Request) (h : ℕ) (xs : List ℕ) (k : Kernel) → without_lists (wakes_all (handing r) h xs k) ≡ awakened_all r xs (without_lists k)
@@ -43,21 +45,47 @@ looks-all bits h (x ∷ xs) k =
     let ready = ready_bits bits (task_at k x).mask (task_at k x).opt in
     looks-all bits h xs (flag_wakes ready h x k) ∙ ap (looked_at_all bits xs) (looks-one ready h x k)
 
--- a post that is served deletes nothing and renews nothing
-pub plain-wake : (s : Service) (o : ℕ) (e : Effect) → is_served_post s ≡ true → renewed_after (renews s) at_tail (gone_after (ending_of s) o e) ≡ e
-plain-wake SemPost o e h = refl
-plain-wake QPost o e h = refl
-plain-wake TaskSemPost o e h = refl
-plain-wake TaskQPost o e h = refl
-plain-wake _ o e h = absurd (false≢true h)
+-- a call that is served renews nothing
+pub plain-wake : (s : Service) (e : Effect) → is_served_wake s ≡ true → renewed_after (renews s) at_tail e ≡ e
+plain-wake SemPost e h = refl
+plain-wake QPost e h = refl
+plain-wake TaskSemPost e h = refl
+plain-wake TaskQPost e h = refl
+plain-wake TimeDlyResume e h = refl
+plain-wake SemPendAbort e h = refl
+plain-wake QPendAbort e h = refl
+plain-wake FlagPendAbort e h = refl
+plain-wake TaskSemPendAbort e h = refl
+plain-wake TaskQPendAbort e h = refl
+plain-wake SemDel e h = refl
+plain-wake QDel e h = refl
+plain-wake FlagDel e h = refl
+plain-wake _ e h = absurd (false≢true h)
 
--- nor does a post of event flags
+-- what a deletion takes has no part in the lists, and leaves the tasks
+pub gone-bare : (g : Ending) (o : ℕ) (k : Kernel) → without_lists (gone_by g o k) ≡ gone_by g o (without_lists k)
+gone-bare Posted o k = refl
+gone-bare Aborted o k = refl
+gone-bare Deleted o k = refl
+
+pub gone-tasks : (g : Ending) (o : ℕ) (k : Kernel) → (gone_by g o k).tasks ≡ k.tasks
+gone-tasks Posted o k = refl
+gone-tasks Aborted o k = refl
+gone-tasks Deleted o k = refl
+
+-- nor does a post of event flags, which deletes nothing either
 pub plain-flags : (s : Service) (o : ℕ) (e : Effect) → s ≡ FlagPost → renewed_after (renews s) at_tail (gone_after (ending_of s) o e) ≡ e
 plain-flags s o e h = subst (λ u. renewed_after (renews u) at_tail (gone_after (ending_of u) o e) ≡ e) (sym h) refl
 
-pub all-posts : (s : Service) → may_wake_all s ≡ true → is_served_post s ≡ true
+pub all-posts : (s : Service) → may_wake_all s ≡ true → is_served_wake s ≡ true
 all-posts SemPost h = refl
 all-posts QPost h = refl
+all-posts SemPendAbort h = refl
+all-posts QPendAbort h = refl
+all-posts FlagPendAbort h = refl
+all-posts SemDel h = refl
+all-posts QDel h = refl
+all-posts FlagDel h = refl
 all-posts _ h = absurd (false≢true h)
 
 pub plain-wait : (s : Service) (e : Effect) → is_served_wait s ≡ true → renewed_after (renews s) at_head e ≡ e
@@ -66,6 +94,7 @@ plain-wait QPend e h = refl
 plain-wait FlagPend e h = refl
 plain-wait TaskSemPend e h = refl
 plain-wait TaskQPend e h = refl
+plain-wait TimeDly e h = refl
 plain-wait _ e h = absurd (false≢true h)
 
 -- the change of what a call is about has no part in the lists
@@ -73,35 +102,48 @@ bare-by : (b : Bool) (r : Request) (x : ℕ) (d : Decision) (k : Kernel) → is_
 bare-by true r x d k e = rw e refl
 bare-by false r x d k e = rw e refl
 
-own-bare-by : (b : Bool) (r : Request) (x : ℕ) (d : Decision) (k : Kernel) → acts d ≡ b → without_lists (own_change r x d k) ≡ own_change r x d (without_lists k)
-own-bare-by true r x d k e = rw e (bare-by (is_task_call r.service) r x d k refl)
-own-bare-by false r x d k e = rw e refl
+objects-bare : (b : Bool) (r : Request) (x : ℕ) (d : Decision) (k : Kernel) → acts d ≡ b → without_lists (changed_objects r x d k) ≡ changed_objects r x d (without_lists k)
+objects-bare true r x d k e = rw e (bare-by (is_task_call r.service) r x d k refl)
+objects-bare false r x d k e = rw e refl
+
+own-bare-by : (b : Bool) (r : Request) (x : ℕ) (d : Decision) (k : Kernel) → is_scheduler_call r.service ≡ b → without_lists (own_change r x d k) ≡ own_change r x d (without_lists k)
+own-bare-by true r x d k e = rw e refl
+own-bare-by false r x d k e = rw e (objects-bare (acts d) r x d k refl)
 
 pub own-bare : (r : Request) (x : ℕ) (d : Decision) (k : Kernel) → without_lists (own_change r x d k) ≡ own_change r x d (without_lists k)
-own-bare r x d k = own-bare-by (acts d) r x d k refl
+own-bare r x d k = own-bare-by (is_scheduler_call r.service) r x d k refl
+
+-- those that are woken, and what is gone then
+woken-bare : (who : Who) (r : Request) (x h : ℕ) (ws : List ℕ) (k : Kernel) → is_served_wake r.service ≡ true
+    → without_lists (renewed_after (renews r.service) at_tail (gone_after (ending_of r.service) (argument r 0) (ends_waits r.service r h ws (own_change r x (Wake who) k)))).kernel
+    ≡ gone_by (ending_of r.service) (argument r 0) (awakened_all r ws (own_change r x (Wake who) (without_lists k)))
+woken-bare who r x h ws k s =
+    let j = own_change r x (Wake who) k in
+    let g = ending_of r.service in
+    let o = argument r 0 in
+    ap (λ (e : Effect). without_lists e.kernel) (plain-wake r.service _ s)
+    ∙ gone-bare g o (wakes_all (handing r) h ws j)
+    ∙ ap (gone_by g o) (wakes-awakened r h ws j ∙ ap (awakened_all r ws) (own-bare r x (Wake who) k))
 
 pub is-concluded : IsConcluded
 is-concluded (Done a) r x h xs k s = own-bare r x (Done a) k
 is-concluded Block r x h xs k s =
     ap (λ (e : Effect). without_lists e.kernel) (plain-wait r.service _ s)
-    ∙ ap (λ (j : Kernel). waiting_from x (wait_of r.service r) j) (own-bare r x Block k)
-is-concluded (Wake First) r x h xs k s =
-    ap (λ (e : Effect). without_lists e.kernel) (plain-wake r.service _ _ s)
-    ∙ wakes-awakened r h (chosen false xs) (own_change r x (Wake First) k) ∙ ap (awakened_all r (chosen false xs)) (own-bare r x (Wake First) k)
-is-concluded (Wake All) r x h xs k s =
-    ap (λ (e : Effect). without_lists e.kernel) (plain-wake r.service _ _ (all-posts r.service s))
-    ∙ wakes-awakened r h xs (own_change r x (Wake All) k) ∙ ap (awakened_all r xs) (own-bare r x (Wake All) k)
+    ∙ ap (λ (j : Kernel). waiting_in r x j) (own-bare r x Block k)
+is-concluded (Wake First) r x h xs k s = woken-bare First r x h (chosen false xs) k s
+is-concluded (Wake All) r x h xs k s = woken-bare All r x h xs k (all-posts r.service s)
 is-concluded (Wake Matching) r x h xs k s =
     let j = own_change r x (Wake Matching) k in
     ap (λ (e : Effect). without_lists e.kernel) (plain-flags r.service _ _ s)
     ∙ looks-all (bits_in (content_for r j)) h xs j
     ∙ ap (λ (i : Kernel). looked_at_all (bits_in (content_for r i)) xs i) (own-bare r x (Wake Matching) k)
+    ∙ sym (ap (λ t. gone_by (ending_of t) (argument r 0) (looked_at_all (bits_in (content_for r (own_change r x (Wake Matching) (without_lists k)))) xs (own_change r x (Wake Matching) (without_lists k)))) s)
 
 pub has-outcome : HasOutcome
 has-outcome (Done a) r x h xs k s = refl
 has-outcome Block r x h xs k s = ap (λ (e : Effect). e.outcome) (plain-wait r.service _ s)
-has-outcome (Wake First) r x h xs k s = ap (λ (e : Effect). e.outcome) (plain-wake r.service _ _ s)
-has-outcome (Wake All) r x h xs k s = ap (λ (e : Effect). e.outcome) (plain-wake r.service _ _ (all-posts r.service s))
+has-outcome (Wake First) r x h xs k s = ap (λ (e : Effect). e.outcome) (plain-wake r.service _ s)
+has-outcome (Wake All) r x h xs k s = ap (λ (e : Effect). e.outcome) (plain-wake r.service _ (all-posts r.service s))
 has-outcome (Wake Matching) r x h xs k s = ap (λ (e : Effect). e.outcome) (plain-flags r.service _ _ s)
 
 -- the lists of the kernel have no part in it
@@ -126,8 +168,25 @@ awakens-bare Matching r xs k = looked-bare (bits_in (content_for r k)) xs k
 
 pub concluded-bare : (d : Decision) (r : Request) (x : ℕ) (xs : List ℕ) (k : Kernel) → without_lists (concluded d r x xs k) ≡ concluded d r x xs (without_lists k)
 concluded-bare (Done a) r x xs k = own-bare r x (Done a) k
-concluded-bare Block r x xs k = ap (λ (j : Kernel). waiting_from x (wait_of r.service r) j) (own-bare r x Block k)
-concluded-bare (Wake who) r x xs k = awakens-bare who r xs (own_change r x (Wake who) k) ∙ ap (awakens who r xs) (own-bare r x (Wake who) k)
+concluded-bare Block r x xs k = ap (λ (j : Kernel). waiting_in r x j) (own-bare r x Block k)
+concluded-bare (Wake who) r x xs k =
+    let g = ending_of r.service in
+    let o = argument r 0 in
+    gone-bare g o (awakens who r xs (own_change r x (Wake who) k))
+    ∙ ap (gone_by g o) (awakens-bare who r xs (own_change r x (Wake who) k) ∙ ap (awakens who r xs) (own-bare r x (Wake who) k))
+
+-- nor in its outcome
+replied-bare : (s : Service) (r : Request) (xs : List ℕ) (k : Kernel) → answers (replied s xs k) ≡ answers (replied s xs (without_lists k))
+replied-bare TimeDlyResume r [] k = refl
+replied-bare TimeDlyResume r (x ∷ xs) k = refl
+replied-bare _ r xs k = refl
+
+pub outcome-bare : (d : Decision) (r : Request) (xs : List ℕ) (k : Kernel) → outcome_of d r xs k ≡ outcome_of d r xs (without_lists k)
+outcome-bare (Done a) r xs k = refl
+outcome-bare Block r xs k = refl
+outcome-bare (Wake First) r xs k = replied-bare r.service r xs k
+outcome-bare (Wake All) r xs k = replied-bare r.service r xs k
+outcome-bare (Wake Matching) r xs k = refl
 
 -- a task that waits for several objects does not get the answer of a post alone; any other does
 single-posted : (w : Waiting) (o : ℕ) (a : Answer) (t : Task) → IsSingle w → posted_to w o a t ≡ waited w t a

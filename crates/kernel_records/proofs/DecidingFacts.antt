@@ -10,7 +10,7 @@ use Rattle.kern_base.specs.Checks.{static_error, target_error, object_error, is_
 use Rattle.kern_base.specs.declared.kinds.Kind.{Kind}
 use Rattle.kern_base.specs.declared.kinds.Kind.TheVariants.{Sem, Queue, Flags, OneShot, Periodic}
 use Rattle.kern_base.specs.declared.services.Service.{Service}
-use Rattle.kern_base.specs.declared.services.Service.TheVariants.{SemPost, QPost, FlagPost, TaskSemPost, TaskQPost, SemPend, QPend, FlagPend, TaskSemPend, TaskQPend, QDel}
+use Rattle.kern_base.specs.declared.services.Service.TheVariants.{SemPost, QPost, FlagPost, TaskSemPost, TaskQPost, SemPend, QPend, FlagPend, TaskSemPend, TaskQPend, QDel, SchedLock, SchedUnlock, TimeGet, TimeDly, TimeDlyResume, SemPendAbort, QPendAbort, FlagPendAbort, TaskSemPendAbort, TaskQPendAbort, SemDel, FlagDel}
 use Rattle.kern_base.specs.declared.requests.Request.{Request}
 use Rattle.kern_base.specs.declared.errors.OsErr.{OsErr}
 use Rattle.kern_base.specs.declared.errors.OsErr.TheVariants.{CallUnknown, ObjectType, OptionInvalid, TaskInvalid, TaskNotExist}
@@ -26,7 +26,7 @@ use Rattle.kern_model.specs.Services.{content_for, effect, perform}
 use Rattle.kern_model.specs.Served.{program_serves}
 use Rattle.kern_model.specs.Micro.{Lists}
 use Rattle.kern_model.proofs.Lemmas.{checked_object}
-use Rattle.kern_laws.proofs.Services.Checks.{named_object}
+use Rattle.kern_laws.proofs.Lemmas.{named_object}
 use Rattle.decisions.specs.Around.{IsAround}
 use Rattle.decisions.specs.Rows.{is_no_error, is_success, refusal, wait_decision}
 use Rattle.decisions.specs.Decided.{IsDecided, decided}
@@ -37,8 +37,9 @@ use Rattle.task_objects.specs.Rows as own
 use Rattle.task_objects.specs.Rows.{Holds, IsTaskDecided, is_task_call, target, waiters}
 use Rattle.msg_queues.specs.Rows.{IsQueueDecided}
 use Rattle.kernel_records.specs.RecordsRecord.{with_lists}
-use Rattle.kernel_records.specs.Served.{is_served_post, is_served_wait}
-use Rattle.kernel_records.specs.Deciding.{IsCallOn, IsRow, acts, changed_by, content_after, decision_about, decision_after, decision_by, decision_of, free_after, object_change, own_change, own_task_after, task_change, waiters_of}
+use Rattle.kernel_records.specs.SchedulerCalls.{is_scheduler_call, lock_after, scheduler_decision, scheduler_decision_for, scheduler_waiters}
+use Rattle.kernel_records.specs.Served.{is_served_wake, is_served_wait, serves_object}
+use Rattle.kernel_records.specs.Deciding.{IsCallOn, IsRow, acts, changed_by, changed_objects, content_after, decision_about, decision_after, decision_by, decision_of, decision_on_objects, free_after, object_change, own_change, own_task_after, scheduler_change, task_change, waiters_of}
 
 -- an object that keeps what it holds
 pub same-content : (k : Kernel) (o : ℕ) (c : Content) → c ≡ (object_at k o).content → with_content k o c ≡ k
@@ -46,15 +47,35 @@ same-content k o c e =
     ap (λ bs. record k { objects = bs })
     (ap (λ d. slice_set k.objects o (record (object_at k o) { content = d })) e ∙ set-get_or k.objects o no_object)
 
+-- what changes by what a call is about
+pub own-objects : (r : Request) (x : ℕ) (d : Decision) (k : Kernel) → is_scheduler_call r.service ≡ false → own_change r x d k ≡ changed_objects r x d k
+own-objects r x d k n = ap (λ b. if b then scheduler_change r d k else changed_objects r x d k) n
+
+pub own-scheduler : (r : Request) (x : ℕ) (d : Decision) (k : Kernel) → is_scheduler_call r.service ≡ true → own_change r x d k ≡ scheduler_change r d k
+own-scheduler r x d k n = ap (λ b. if b then scheduler_change r d k else changed_objects r x d k) n
+
 -- a decision that acts not leaves what a call is about
-own-by : (r : Request) (x : ℕ) (d : Decision) (k : Kernel) (b : Bool) → acts d ≡ b → b ≡ false → own_change r x d k ≡ k
-own-by r x d k b e h = ap (λ c. if c then changed_by r x d k else k) (e ∙ h)
+pub own-none : (r : Request) (x : ℕ) (d : Decision) (k : Kernel) → is_scheduler_call r.service ≡ false → acts d ≡ false → own_change r x d k ≡ k
+own-none r x d k n h = own-objects r x d k n ∙ ap (λ c. if c then changed_by r x d k else k) h
 
-pub own-none : (r : Request) (x : ℕ) (d : Decision) (k : Kernel) → acts d ≡ false → own_change r x d k ≡ k
-own-none r x d k h = own-by r x d k (acts d) refl h
+pub own-acts : (r : Request) (x : ℕ) (d : Decision) (k : Kernel) → is_scheduler_call r.service ≡ false → acts d ≡ true → own_change r x d k ≡ changed_by r x d k
+own-acts r x d k n h = own-objects r x d k n ∙ ap (λ c. if c then changed_by r x d k else k) h
 
-pub own-acts : (r : Request) (x : ℕ) (d : Decision) (k : Kernel) → acts d ≡ true → own_change r x d k ≡ changed_by r x d k
-own-acts r x d k h = ap (λ c. if c then changed_by r x d k else k) h
+-- a refusal leaves the lock, and so does a call that waits or wakes
+lock-refused : (s : Service) (err : OsErr) (lock : ℕ) → is_no_error err ≡ false → lock_after s (refusal err) lock ≡ lock
+lock-refused SchedLock err lock h = ap (λ b. if b then lock + 1 else lock) h
+lock-refused SchedUnlock err lock h = ap (λ b. if b || false then lock - 1 else lock) h
+lock-refused _ err lock h = refl
+
+pub same-lock : (r : Request) (d : Decision) (k : Kernel) → lock_after r.service d k.lock ≡ k.lock → scheduler_change r d k ≡ k
+same-lock r d k e = ap (λ n. record k { lock = n }) e
+
+refused-by : (b : Bool) (r : Request) (x : ℕ) (err : OsErr) (k : Kernel) → is_scheduler_call r.service ≡ b → is_no_error err ≡ false → own_change r x (refusal err) k ≡ k
+refused-by true r x err k n h = own-scheduler r x (refusal err) k n ∙ same-lock r (refusal err) k (lock-refused r.service err k.lock h)
+refused-by false r x err k n h = own-none r x (refusal err) k n h
+
+pub own-refused : (r : Request) (x : ℕ) (err : OsErr) (k : Kernel) → is_no_error err ≡ false → own_change r x (refusal err) k ≡ k
+own-refused r x err k h = refused-by (is_scheduler_call r.service) r x err k refl h
 
 pub changed-object : (r : Request) (x : ℕ) (d : Decision) (k : Kernel) → is_task_call r.service ≡ false → changed_by r x d k ≡ object_change r d k
 changed-object r x d k h = ap (λ c. if c then task_change r (target r.service r x) d k else object_change r d k) h
@@ -80,12 +101,16 @@ kinds-changed true r x d k e = ap kinds_of (changed-task r x d k e)
 kinds-changed false r x d k e =
     ap kinds_of (changed-object r x d k e) ∙ kinds-object r d k
 
-kinds-by : (b : Bool) (r : Request) (x : ℕ) (d : Decision) (k : Kernel) → acts d ≡ b → kinds_of (own_change r x d k) ≡ kinds_of k
-kinds-by true r x d k e = ap kinds_of (own-acts r x d k e) ∙ kinds-changed (is_task_call r.service) r x d k refl
-kinds-by false r x d k e = ap kinds_of (own-none r x d k e)
+kinds-by : (b : Bool) (r : Request) (x : ℕ) (d : Decision) (k : Kernel) → is_scheduler_call r.service ≡ false → acts d ≡ b → kinds_of (own_change r x d k) ≡ kinds_of k
+kinds-by true r x d k n e = ap kinds_of (own-acts r x d k n e) ∙ kinds-changed (is_task_call r.service) r x d k refl
+kinds-by false r x d k n e = ap kinds_of (own-none r x d k n e)
+
+kinds-if : (b : Bool) (r : Request) (x : ℕ) (d : Decision) (k : Kernel) → is_scheduler_call r.service ≡ b → kinds_of (own_change r x d k) ≡ kinds_of k
+kinds-if true r x d k n = ap kinds_of (own-scheduler r x d k n)
+kinds-if false r x d k n = kinds-by (acts d) r x d k n refl
 
 pub kinds-own : (r : Request) (x : ℕ) (d : Decision) (k : Kernel) → kinds_of (own_change r x d k) ≡ kinds_of k
-kinds-own r x d k = kinds-by (acts d) r x d k refl
+kinds-own r x d k = kinds-if (is_scheduler_call r.service) r x d k refl
 
 -- the error of a check is one
 abbrev Fails : Option OsErr → Type 0
@@ -118,7 +143,7 @@ fails-call r x k err e =
 
 -- a refusal as a decision
 pub row-refused : (r : Request) (x h : ℕ) (xs : List ℕ) (k : Kernel) (err : OsErr) → is_no_error err ≡ false → refused k err ≡ decided (refusal err) r.service r x h xs (own_change r x (refusal err) k)
-row-refused r x h xs k err e = ap (λ j. refused j err) (sym (own-none r x (refusal err) k e))
+row-refused r x h xs k err e = ap (λ j. refused j err) (sym (own-refused r x err k e))
 
 -- a decision that acts comes of a call that has passed its checks
 pub record HasPassed (r : Request) (seen : Around) (d : Decision) (k : Kernel) : Type 0 where
@@ -139,25 +164,137 @@ acts-served r seen d k false s h a = absurd (false≢true (sym (ap acts h) ∙ a
 pub acting : (r : Request) (seen : Around) (d : Decision) (k : Kernel) → d ≡ decision_of r seen k → acts d ≡ true → HasPassed r seen d k
 acting r seen d k h a = acts-served r seen d k (program_serves r.service) refl h a
 
+-- what is decided by what the call is about
+pub about-objects : (r : Request) (seen : Around) (k : Kernel) → is_scheduler_call r.service ≡ false → decision_about r seen k ≡ decision_on_objects r seen k
+about-objects r seen k n = ap (λ b. if b then scheduler_decision r seen k else decision_on_objects r seen k) n
+
+pub about-scheduler : (r : Request) (seen : Around) (k : Kernel) → is_scheduler_call r.service ≡ true → decision_about r seen k ≡ scheduler_decision r seen k
+about-scheduler r seen k n = ap (λ b. if b then scheduler_decision r seen k else decision_on_objects r seen k) n
+
+-- a decision on objects that acts comes of a call that has passed its checks
+pub record HasPassedObjects (r : Request) (seen : Around) (d : Decision) (k : Kernel) : Type 0 where
+  pub served : serves_object r.service ≡ true
+  pub passed : call_error r seen.caller.0 k ≡ None
+  pub decided : d ≡ decision_on_objects r seen k
+
 -- what the object decides, of a call that names one; and what the task decides
-pub by-object : (r : Request) (seen : Around) (k : Kernel) → is_task_call r.service ≡ false → decision_about r seen k ≡ decision_by (content_for r k) k.free r seen
+pub by-object : (r : Request) (seen : Around) (k : Kernel) → is_task_call r.service ≡ false → decision_on_objects r seen k ≡ decision_by (content_for r k) k.free r seen
 by-object r seen k h = ap (λ b. if b then own.decision_of (task_at k (target r.service r seen.caller.0)).count (task_at k (target r.service r seen.caller.0)).limit (task_at k (target r.service r seen.caller.0)).messages k.free r seen else decision_by (content_for r k) k.free r seen) h
 
-pub by-task : (r : Request) (seen : Around) (k : Kernel) → is_task_call r.service ≡ true → let t = task_at k (target r.service r seen.caller.0) in decision_about r seen k ≡ own.decision_of t.count t.limit t.messages k.free r seen
+pub by-task : (r : Request) (seen : Around) (k : Kernel) → is_task_call r.service ≡ true → let t = task_at k (target r.service r seen.caller.0) in decision_on_objects r seen k ≡ own.decision_of t.count t.limit t.messages k.free r seen
 by-task r seen k h = ap (λ b. if b then own.decision_of (task_at k (target r.service r seen.caller.0)).count (task_at k (target r.service r seen.caller.0)).limit (task_at k (target r.service r seen.caller.0)).messages k.free r seen else decision_by (content_for r k) k.free r seen) h
+
+-- what is decided of a call on the scheduler does not depend on the lists, nor who waits for what it is about
+pub scheduler-lists : (s : Service) (r : Request) (seen : Around) (k : Kernel) (l : Lists) → scheduler_decision_for s r seen k ≡ scheduler_decision_for s r seen (with_lists k l)
+scheduler-lists SchedLock r seen k l = refl
+scheduler-lists SchedUnlock r seen k l = refl
+scheduler-lists TimeGet r seen k l = refl
+scheduler-lists TimeDly r seen k l = refl
+scheduler-lists TimeDlyResume r seen k l = refl
+scheduler-lists _ r seen k l = refl
+
+pub scheduler-waiters : (s : Service) (r : Request) (x : ℕ) (k : Kernel) (l : Lists) → scheduler_waiters s r x k ≡ scheduler_waiters s r x (with_lists k l)
+scheduler-waiters TimeDlyResume r x k l = refl
+scheduler-waiters _ r x k l = refl
+
+pub about-lists : (r : Request) (seen : Around) (k : Kernel) (l : Lists) → decision_about r seen k ≡ decision_about r seen (with_lists k l)
+about-lists r seen k l = ap (λ d. if is_scheduler_call r.service then d else decision_on_objects r seen k) (scheduler-lists r.service r seen k l)
+
+-- a service that is served is one for objects, or a call on the scheduler
+pub serves-by : (s : Service) → program_serves s ≡ true → is_scheduler_call s ≡ false → serves_object s ≡ true
+serves-by SemPost p n = refl
+serves-by QPost p n = refl
+serves-by FlagPost p n = refl
+serves-by TaskSemPost p n = refl
+serves-by TaskQPost p n = refl
+serves-by SemPend p n = refl
+serves-by QPend p n = refl
+serves-by FlagPend p n = refl
+serves-by TaskSemPend p n = refl
+serves-by TaskQPend p n = refl
+serves-by SemPendAbort p n = refl
+serves-by QPendAbort p n = refl
+serves-by FlagPendAbort p n = refl
+serves-by TaskSemPendAbort p n = refl
+serves-by TaskQPendAbort p n = refl
+serves-by SemDel p n = refl
+serves-by QDel p n = refl
+serves-by FlagDel p n = refl
+serves-by SchedLock p n = absurd (false≢true (sym n))
+serves-by SchedUnlock p n = absurd (false≢true (sym n))
+serves-by TimeGet p n = absurd (false≢true (sym n))
+serves-by TimeDly p n = absurd (false≢true (sym n))
+serves-by TimeDlyResume p n = absurd (false≢true (sym n))
+serves-by _ p n = absurd (false≢true p)
+
+-- and the first is neither the second
+pub no-scheduler : (s : Service) → serves_object s ≡ true → is_scheduler_call s ≡ false
+no-scheduler SemPost p = refl
+no-scheduler QPost p = refl
+no-scheduler FlagPost p = refl
+no-scheduler TaskSemPost p = refl
+no-scheduler TaskQPost p = refl
+no-scheduler SemPend p = refl
+no-scheduler QPend p = refl
+no-scheduler FlagPend p = refl
+no-scheduler TaskSemPend p = refl
+no-scheduler TaskQPend p = refl
+no-scheduler SemPendAbort p = refl
+no-scheduler QPendAbort p = refl
+no-scheduler FlagPendAbort p = refl
+no-scheduler TaskSemPendAbort p = refl
+no-scheduler TaskQPendAbort p = refl
+no-scheduler SemDel p = refl
+no-scheduler QDel p = refl
+no-scheduler FlagDel p = refl
+no-scheduler _ p = absurd (false≢true p)
+
+pub served-object : (s : Service) → serves_object s ≡ true → program_serves s ≡ true
+served-object SemPost p = refl
+served-object QPost p = refl
+served-object FlagPost p = refl
+served-object TaskSemPost p = refl
+served-object TaskQPost p = refl
+served-object SemPend p = refl
+served-object QPend p = refl
+served-object FlagPend p = refl
+served-object TaskSemPend p = refl
+served-object TaskQPend p = refl
+served-object SemPendAbort p = refl
+served-object QPendAbort p = refl
+served-object FlagPendAbort p = refl
+served-object TaskSemPendAbort p = refl
+served-object TaskQPendAbort p = refl
+served-object SemDel p = refl
+served-object QDel p = refl
+served-object FlagDel p = refl
+served-object _ p = absurd (false≢true p)
+
+pub acting-objects : (r : Request) (seen : Around) (d : Decision) (k : Kernel) → is_scheduler_call r.service ≡ false → d ≡ decision_of r seen k → acts d ≡ true → HasPassedObjects r seen d k
+acting-objects r seen d k n h a =
+    let it = acting r seen d k h a in
+    record { served = serves-by r.service it.served n; passed = it.passed; decided = it.decided ∙ about-objects r seen k n }
 
 -- the kind of object that a call wants
 pub record WantsKind (s : Service) : Type 0 where
   pub kind : Kind
   pub wanted : kinds_wanted s ≡ kind ∷ []
 
-pub wants-kind : (s : Service) → program_serves s ≡ true → is_task_call s ≡ false → WantsKind s
+pub wants-kind : (s : Service) → serves_object s ≡ true → is_task_call s ≡ false → WantsKind s
 wants-kind SemPost p t = record { kind = Sem; wanted = refl }
 wants-kind SemPend p t = record { kind = Sem; wanted = refl }
 wants-kind QPost p t = record { kind = Queue; wanted = refl }
 wants-kind QPend p t = record { kind = Queue; wanted = refl }
 wants-kind FlagPost p t = record { kind = Flags; wanted = refl }
 wants-kind FlagPend p t = record { kind = Flags; wanted = refl }
+wants-kind SemPendAbort p t = record { kind = Sem; wanted = refl }
+wants-kind QPendAbort p t = record { kind = Queue; wanted = refl }
+wants-kind FlagPendAbort p t = record { kind = Flags; wanted = refl }
+wants-kind SemDel p t = record { kind = Sem; wanted = refl }
+wants-kind QDel p t = record { kind = Queue; wanted = refl }
+wants-kind FlagDel p t = record { kind = Flags; wanted = refl }
+wants-kind TaskSemPendAbort p t = absurd (false≢true (sym t))
+wants-kind TaskQPendAbort p t = absurd (false≢true (sym t))
 wants-kind TaskSemPost p t = absurd (false≢true (sym t))
 wants-kind TaskSemPend p t = absurd (false≢true (sym t))
 wants-kind TaskQPost p t = absurd (false≢true (sym t))
@@ -165,7 +302,7 @@ wants-kind TaskQPend p t = absurd (false≢true (sym t))
 wants-kind _ p t = absurd (false≢true p)
 
 -- its object is there
-pub passed-inside : (r : Request) (x : ℕ) (k : Kernel) → program_serves r.service ≡ true → is_task_call r.service ≡ false → call_error r x k ≡ None → argument r 0 < length k.objects
+pub passed-inside : (r : Request) (x : ℕ) (k : Kernel) → serves_object r.service ≡ true → is_task_call r.service ≡ false → call_error r x k ≡ None → argument r 0 < length k.objects
 passed-inside r x k s t h = let w = wants-kind r.service s t in checked_object r x k w.kind [] w.wanted h
 
 -- a timer is of neither of these kinds
@@ -174,7 +311,7 @@ no-timer w p o true h = false≢true (sym p ∙ h)
 no-timer w p o false h = false≢true (sym o ∙ h)
 
 -- and holds what the call is for
-on-call : (s : Service) (c : Content) (r : Request) → s ≡ r.service → program_serves s ≡ true → is_task_call s ≡ false → is_one_of (kinds_wanted s) (kind_of c) ≡ true → IsCallOn c r
+on-call : (s : Service) (c : Content) (r : Request) → s ≡ r.service → serves_object s ≡ true → is_task_call s ≡ false → is_one_of (kinds_wanted s) (kind_of c) ≡ true → IsCallOn c r
 on-call SemPost (Count n) r e p t h = ap kinds_wanted (sym e)
 on-call SemPost (Messages limit ms) r e p t h = absurd (false≢true h)
 on-call SemPost (Bits bits) r e p t h = absurd (false≢true h)
@@ -205,13 +342,45 @@ on-call FlagPend (Messages limit ms) r e p t h = absurd (false≢true h)
 on-call FlagPend (Bits bits) r e p t h = ap kinds_wanted (sym e)
 on-call FlagPend (Held owner nesting) r e p t h = absurd (false≢true h)
 on-call FlagPend (Timed u) r e p t h = no-timer Flags refl refl u.periodic h
+on-call SemPendAbort (Count n) r e p t h = ap kinds_wanted (sym e)
+on-call SemPendAbort (Messages limit ms) r e p t h = absurd (false≢true h)
+on-call SemPendAbort (Bits bits) r e p t h = absurd (false≢true h)
+on-call SemPendAbort (Held owner nesting) r e p t h = absurd (false≢true h)
+on-call SemPendAbort (Timed u) r e p t h = no-timer Sem refl refl u.periodic h
+on-call QPendAbort (Count n) r e p t h = absurd (false≢true h)
+on-call QPendAbort (Messages limit ms) r e p t h = ap kinds_wanted (sym e)
+on-call QPendAbort (Bits bits) r e p t h = absurd (false≢true h)
+on-call QPendAbort (Held owner nesting) r e p t h = absurd (false≢true h)
+on-call QPendAbort (Timed u) r e p t h = no-timer Queue refl refl u.periodic h
+on-call FlagPendAbort (Count n) r e p t h = absurd (false≢true h)
+on-call FlagPendAbort (Messages limit ms) r e p t h = absurd (false≢true h)
+on-call FlagPendAbort (Bits bits) r e p t h = ap kinds_wanted (sym e)
+on-call FlagPendAbort (Held owner nesting) r e p t h = absurd (false≢true h)
+on-call FlagPendAbort (Timed u) r e p t h = no-timer Flags refl refl u.periodic h
+on-call SemDel (Count n) r e p t h = ap kinds_wanted (sym e)
+on-call SemDel (Messages limit ms) r e p t h = absurd (false≢true h)
+on-call SemDel (Bits bits) r e p t h = absurd (false≢true h)
+on-call SemDel (Held owner nesting) r e p t h = absurd (false≢true h)
+on-call SemDel (Timed u) r e p t h = no-timer Sem refl refl u.periodic h
+on-call QDel (Count n) r e p t h = absurd (false≢true h)
+on-call QDel (Messages limit ms) r e p t h = ap kinds_wanted (sym e)
+on-call QDel (Bits bits) r e p t h = absurd (false≢true h)
+on-call QDel (Held owner nesting) r e p t h = absurd (false≢true h)
+on-call QDel (Timed u) r e p t h = no-timer Queue refl refl u.periodic h
+on-call FlagDel (Count n) r e p t h = absurd (false≢true h)
+on-call FlagDel (Messages limit ms) r e p t h = absurd (false≢true h)
+on-call FlagDel (Bits bits) r e p t h = ap kinds_wanted (sym e)
+on-call FlagDel (Held owner nesting) r e p t h = absurd (false≢true h)
+on-call FlagDel (Timed u) r e p t h = no-timer Flags refl refl u.periodic h
+on-call TaskSemPendAbort c r e p t h = absurd (false≢true (sym t))
+on-call TaskQPendAbort c r e p t h = absurd (false≢true (sym t))
 on-call TaskSemPost c r e p t h = absurd (false≢true (sym t))
 on-call TaskSemPend c r e p t h = absurd (false≢true (sym t))
 on-call TaskQPost c r e p t h = absurd (false≢true (sym t))
 on-call TaskQPend c r e p t h = absurd (false≢true (sym t))
 on-call _ c r e p t h = absurd (false≢true p)
 
-pub passed-call : (r : Request) (x : ℕ) (k : Kernel) → program_serves r.service ≡ true → is_task_call r.service ≡ false → call_error r x k ≡ None → IsCallOn (content_for r k) r
+pub passed-call : (r : Request) (x : ℕ) (k : Kernel) → serves_object r.service ≡ true → is_task_call r.service ≡ false → call_error r x k ≡ None → IsCallOn (content_for r k) r
 passed-call r x k s t h =
     let w = wants-kind r.service s t in
     on-call r.service (content_for r k) r refl s t (subst (λ ws. is_one_of ws (kind_of (content_for r k)) ≡ true) (sym w.wanted) (named_object r x k w.kind [] w.wanted h).kind)

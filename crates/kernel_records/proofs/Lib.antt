@@ -1,6 +1,7 @@
 pub mod ObjectFacts
 pub mod DecidingFacts
 pub mod RowFacts
+pub mod SchedulerFacts
 pub mod BitsFacts
 pub mod TaskFacts
 pub mod CallChanges
@@ -8,5 +9,6 @@ pub mod ObjectCalls
 pub mod TaskCalls
 pub mod ConsumeFacts
 pub mod ConcludingFacts
+pub mod DeletionFacts
 pub mod StartFacts
 pub mod WaitFacts

@@ -4,7 +4,7 @@ use Rattle.std.specs.Prelude.{slice_index_or, slice_set, nat_lt, not, ◌&&◌, 
 use Rattle.kern_base.specs.declared.kinds.Kind.{Kind}
 use Rattle.kern_model.specs.State as state
 use Rattle.kern_model.specs.State.{Task, is_ready, kind_of, no_object, no_task, object_in, task_in, update_object, update_task}
-use Rattle.kern_model.proofs.Basics.Choices.{less, not_less}
+use Rattle.kern_model.proofs.Lemmas.{less, not_less}
 use Rattle.machine_model.specs.Steps.{some_readied}
 use Rattle.message_store.specs.Store.{HeldQueue, OwnObjects, no_own, no_queue}
 use Rattle.message_store.specs.Start.{own_of}

@@ -6,15 +6,15 @@ use Rattle.std.proofs.lemmas.Bool.Decides.{leb_tells}
 use Rattle.std.proofs.lemmas.List.{get_or_past}
 use Rattle.kern_base.specs.Checks.{kinds_wanted, names_task, static_error}
 use Rattle.kern_base.specs.declared.services.Service.{Service}
-use Rattle.kern_base.specs.declared.services.Service.TheVariants.{TaskSemPost, TaskQPost, TaskSemPend, TaskQPend, SemPost, SemPend, QPost, QPend, FlagPost, FlagPend}
+use Rattle.kern_base.specs.declared.services.Service.TheVariants.{TaskSemPost, TaskQPost, TaskSemPend, TaskQPend, SemPost, SemPend, QPost, QPend, FlagPost, FlagPend, SemPendAbort, QPendAbort, FlagPendAbort, TaskSemPendAbort, TaskQPendAbort, SemDel, QDel, FlagDel}
 use Rattle.kern_base.specs.declared.requests.Request.{Request}
 use Rattle.kern_base.specs.declared.errors.OsErr.TheVariants.{ObjectType, TaskNotExist}
 use Rattle.kern_base.specs.declared.outcomes.Around.{Around}
 use Rattle.kern_base.specs.declared.outcomes.Decision.{Decision}
 use Rattle.kern_model.specs.State.{Kernel, Task, kinds_of, no_task, object_at, task_at, task_in}
 use Rattle.kern_model.specs.Checks.{call_error, existence_error, is_deleted, named_task, argument}
-use Rattle.kern_model.specs.Served.{program_serves}
-use Rattle.kern_model.proofs.Basics.Choices.{not_false, passed_if, second_passed}
+use Rattle.kernel_records.specs.Served.{serves_object}
+use Rattle.kern_model.proofs.Lemmas.{not_false, passed_if, second_passed}
 use Rattle.task_objects.specs.Rows as own
 use Rattle.task_objects.specs.Rows.{Holds, is_task_call, target}
 use Rattle.message_store.specs.Store.{own_at}
@@ -43,11 +43,19 @@ alive-inside k y h =
       | inr d ↦ d.1
     ]
 
-target-by : (s : Service) (r : Request) (x : ℕ) (k : Kernel) → s ≡ r.service → program_serves s ≡ true → is_task_call s ≡ true → call_error r x k ≡ None → x < length k.tasks → target s r x < length k.tasks
+target-by : (s : Service) (r : Request) (x : ℕ) (k : Kernel) → s ≡ r.service → serves_object s ≡ true → is_task_call s ≡ true → call_error r x k ≡ None → x < length k.tasks → target s r x < length k.tasks
 target-by TaskSemPost r x k e p t h l = alive-inside k (named_task r x) (named-alive r x k (ap names_task (sym e)) h)
 target-by TaskQPost r x k e p t h l = alive-inside k (named_task r x) (named-alive r x k (ap names_task (sym e)) h)
 target-by TaskSemPend r x k e p t h l = l
 target-by TaskQPend r x k e p t h l = l
+target-by TaskSemPendAbort r x k e p t h l = alive-inside k (named_task r x) (named-alive r x k (ap names_task (sym e)) h)
+target-by TaskQPendAbort r x k e p t h l = alive-inside k (named_task r x) (named-alive r x k (ap names_task (sym e)) h)
+target-by SemDel r x k e p t h l = absurd (false≢true t)
+target-by QDel r x k e p t h l = absurd (false≢true t)
+target-by FlagDel r x k e p t h l = absurd (false≢true t)
+target-by SemPendAbort r x k e p t h l = absurd (false≢true t)
+target-by QPendAbort r x k e p t h l = absurd (false≢true t)
+target-by FlagPendAbort r x k e p t h l = absurd (false≢true t)
 target-by SemPost r x k e p t h l = absurd (false≢true t)
 target-by SemPend r x k e p t h l = absurd (false≢true t)
 target-by QPost r x k e p t h l = absurd (false≢true t)
@@ -56,7 +64,7 @@ target-by FlagPost r x k e p t h l = absurd (false≢true t)
 target-by FlagPend r x k e p t h l = absurd (false≢true t)
 target-by _ r x k e p t h l = absurd (false≢true p)
 
-module _ (a : Inside) (r : Request) (x : ℕ) (i : IsSound a) (low : x < 64) (s : program_serves r.service ≡ true) (t : is_task_call r.service ≡ true) (p : call_error r x (state_of a) ≡ None) where
+module _ (a : Inside) (r : Request) (x : ℕ) (i : IsSound a) (low : x < 64) (s : serves_object r.service ≡ true) (t : is_task_call r.service ≡ true) (p : call_error r x (state_of a) ≡ None) where
   abbrev y : ℕ
   y = target r.service r x
 

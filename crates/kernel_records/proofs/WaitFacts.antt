@@ -6,7 +6,7 @@ use Rattle.std.proofs.lemmas.List.Elements.{All-nil, All-cons}
 use Rattle.kern_base.specs.Checks.{kinds_wanted}
 use Rattle.kern_base.specs.declared.kinds.Kind.TheVariants.{Sem, Queue, Flags}
 use Rattle.kern_base.specs.declared.services.Service.{Service}
-use Rattle.kern_base.specs.declared.services.Service.TheVariants.{SemPend, QPend, FlagPend, TaskSemPend, TaskQPend}
+use Rattle.kern_base.specs.declared.services.Service.TheVariants.{SemPend, QPend, FlagPend, TaskSemPend, TaskQPend, TimeDly}
 use Rattle.kern_base.specs.declared.requests.Request.{Request}
 use Rattle.kern_base.specs.declared.errors.OsErr.{OsErr}
 use Rattle.kern_base.specs.declared.errors.OsErr.TheVariants.{CallUnknown}
@@ -17,7 +17,7 @@ use Rattle.kern_model.specs.Checks.{argument, call_error}
 use Rattle.kern_model.specs.Micro.{Lists}
 use Rattle.kern_model.specs.Served.{program_serves}
 use Rattle.kern_model.specs.Services.{content_for}
-use Rattle.decisions.specs.Decided.{wait_of}
+use Rattle.decisions.specs.Decided.{wait_objects, wait_of}
 use Rattle.decisions.specs.Rows.{refusal, wait_decision}
 use Rattle.semaphores.specs.Rows as semaphore
 use Rattle.event_flags.specs.Rows as flags
@@ -25,9 +25,11 @@ use Rattle.msg_queues.specs.Rows as queue
 use Rattle.task_objects.specs.Rows as own
 use Rattle.task_objects.specs.Rows.{is_task_call, target}
 use Rattle.kernel_records.specs.RecordsRecord.{with_lists}
+use Rattle.tick_timers.specs.Delays.{delay_decision}
+use Rattle.kernel_records.specs.SchedulerCalls.{is_scheduler_call, scheduler_decision_for}
 use Rattle.kernel_records.specs.Served.{is_served_wait}
 use Rattle.kernel_records.specs.Deciding.{IsCallOn, decision_after, decision_by, decision_of}
-use Rattle.kernel_records.proofs.DecidingFacts.{acting, by-object, by-task, passed-call, passed-inside}
+use Rattle.kernel_records.proofs.DecidingFacts.{about-lists, about-scheduler, acting, acting-objects, by-object, by-task, passed-call, passed-inside}
 
 -- a call that can not go on at once
 wait-unlocked : (nb locked : Bool) → Block ≡ wait_decision nb locked → locked ≡ false
@@ -58,6 +60,7 @@ semaphore-unlocked QPend n r seen w e h = absurd cc
 semaphore-unlocked FlagPend n r seen w e h = absurd cc
 semaphore-unlocked TaskSemPend n r seen w e h = absurd cc
 semaphore-unlocked TaskQPend n r seen w e h = absurd cc
+semaphore-unlocked TimeDly n r seen w e h = absurd cc
 semaphore-unlocked _ n r seen w e h = absurd (false≢true w)
 
 queue-unlocked : (s : Service) (limit : ℕ) (ms : List (ℕ × ℕ)) (free : ℕ) (r : Request) (seen : Around) → is_served_wait s ≡ true → kinds_wanted s ≡ Queue ∷ [] → Block ≡ queue.decision_for s limit ms free r seen → seen.locked ≡ false
@@ -66,6 +69,7 @@ queue-unlocked SemPend limit ms free r seen w e h = absurd cc
 queue-unlocked FlagPend limit ms free r seen w e h = absurd cc
 queue-unlocked TaskSemPend limit ms free r seen w e h = absurd cc
 queue-unlocked TaskQPend limit ms free r seen w e h = absurd cc
+queue-unlocked TimeDly limit ms free r seen w e h = absurd cc
 queue-unlocked _ limit ms free r seen w e h = absurd (false≢true w)
 
 flags-unlocked : (s : Service) (bits : ℕ) (r : Request) (seen : Around) → is_served_wait s ≡ true → kinds_wanted s ≡ Flags ∷ [] → Block ≡ flags.decision_for s bits r seen → seen.locked ≡ false
@@ -74,6 +78,7 @@ flags-unlocked SemPend bits r seen w e h = absurd cc
 flags-unlocked QPend bits r seen w e h = absurd cc
 flags-unlocked TaskSemPend bits r seen w e h = absurd cc
 flags-unlocked TaskQPend bits r seen w e h = absurd cc
+flags-unlocked TimeDly bits r seen w e h = absurd cc
 flags-unlocked _ bits r seen w e h = absurd (false≢true w)
 
 object-unlocked : (c : Content) (free : ℕ) (r : Request) (seen : Around) → is_served_wait r.service ≡ true → IsCallOn c r → Block ≡ decision_by c free r seen → seen.locked ≡ false
@@ -90,6 +95,7 @@ task-unlocked TaskQPend n limit ms free r seen w t h = q-unlocked ms (argument r
 task-unlocked SemPend n limit ms free r seen w t h = absurd (false≢true t)
 task-unlocked QPend n limit ms free r seen w t h = absurd (false≢true t)
 task-unlocked FlagPend n limit ms free r seen w t h = absurd (false≢true t)
+task-unlocked TimeDly n limit ms free r seen w t h = absurd (false≢true t)
 task-unlocked _ n limit ms free r seen w t h = absurd (false≢true w)
 
 -- up to eight objects of the kernel, none twice
@@ -108,36 +114,63 @@ once-one false = omega arith
 one-object : (n o : ℕ) → o < n → AreObjects n (o ∷ [])
 one-object n o h = record { inside = All-cons (λ i. i < n) o [] h (All-nil (λ i. i < n)); once = λ i. once-one (o == i); few = omega arith }
 
-waited-by : (s : Service) (r : Request) (n : ℕ) → is_served_wait s ≡ true → (is_task_call s ≡ false → argument r 0 < n) → AreObjects n (wait_of s r).objects
-waited-by SemPend r n w h = one-object n (argument r 0) (h refl)
-waited-by QPend r n w h = one-object n (argument r 0) (h refl)
-waited-by FlagPend r n w h = one-object n (argument r 0) (h refl)
+waited-by : (s : Service) (r : Request) (n : ℕ) → is_served_wait s ≡ true → (is_scheduler_call s ≡ false → is_task_call s ≡ false → argument r 0 < n) → AreObjects n (wait_objects s r)
+waited-by SemPend r n w h = one-object n (argument r 0) (h refl refl)
+waited-by QPend r n w h = one-object n (argument r 0) (h refl refl)
+waited-by FlagPend r n w h = one-object n (argument r 0) (h refl refl)
+waited-by TimeDly r n w h = no-objects n
 waited-by TaskSemPend r n w h = no-objects n
 waited-by TaskQPend r n w h = no-objects n
 waited-by _ r n w h = absurd (false≢true w)
 
+-- a call on the scheduler
+delay-unlocked : (locked : Bool) (n : ℕ) → Block ≡ delay_decision locked n → locked ≡ false
+delay-unlocked true n h = absurd cc
+delay-unlocked false n h = refl
+
+scheduler-unlocked : (s : Service) (r : Request) (seen : Around) (k : Kernel) → is_served_wait s ≡ true → is_scheduler_call s ≡ true → Block ≡ scheduler_decision_for s r seen k → seen.locked ≡ false
+scheduler-unlocked TimeDly r seen k w n h = delay-unlocked seen.locked _ h
+scheduler-unlocked SemPend r seen k w n h = absurd (false≢true n)
+scheduler-unlocked QPend r seen k w n h = absurd (false≢true n)
+scheduler-unlocked FlagPend r seen k w n h = absurd (false≢true n)
+scheduler-unlocked TaskSemPend r seen k w n h = absurd (false≢true n)
+scheduler-unlocked TaskQPend r seen k w n h = absurd (false≢true n)
+scheduler-unlocked _ r seen k w n h = absurd (false≢true w)
+
+-- what the caller waits for has these objects
+pub wait-objects : (s : Service) (r : Request) (ticks : ℕ) → (wait_of s r ticks).objects ≡ wait_objects s r
+wait-objects FlagPend r ticks = refl
+wait-objects TaskSemPend r ticks = refl
+wait-objects TaskQPend r ticks = refl
+wait-objects TimeDly r ticks = refl
+wait-objects _ r ticks = refl
+
 -- the caller waits
 module _ (r : Request) (seen : Around) (k : Kernel) (e : Block ≡ decision_of r seen k) (w : is_served_wait r.service ≡ true) where
-  unlocked-if : (b : Bool) → is_task_call r.service ≡ b → seen.locked ≡ false
-  unlocked-if true t =
-      let it = acting r seen Block k e refl in
+  unlocked-objects : (b : Bool) → is_task_call r.service ≡ b → is_scheduler_call r.service ≡ false → seen.locked ≡ false
+  unlocked-objects true t n =
+      let it = acting-objects r seen Block k n e refl in
       let u = task_at k (target r.service r seen.caller.0) in
       task-unlocked r.service u.count u.limit u.messages k.free r seen w t (it.decided ∙ by-task r seen k t)
-  unlocked-if false t =
-      let it = acting r seen Block k e refl in
+  unlocked-objects false t n =
+      let it = acting-objects r seen Block k n e refl in
       object-unlocked (content_for r k) k.free r seen w (passed-call r seen.caller.0 k it.served t it.passed) (it.decided ∙ by-object r seen k t)
 
-  pub unlocked : seen.locked ≡ false
-  unlocked = unlocked-if (is_task_call r.service) refl
+  unlocked-if : (b : Bool) → is_scheduler_call r.service ≡ b → seen.locked ≡ false
+  unlocked-if true n = scheduler-unlocked r.service r seen k w n ((acting r seen Block k e refl).decided ∙ about-scheduler r seen k n)
+  unlocked-if false n = unlocked-objects (is_task_call r.service) refl n
 
-  pub waited-objects : AreObjects (length k.objects) (wait_of r.service r).objects
+  pub unlocked : seen.locked ≡ false
+  unlocked = unlocked-if (is_scheduler_call r.service) refl
+
+  pub waited-objects : AreObjects (length k.objects) (wait_objects r.service r)
   waited-objects =
-      let it = acting r seen Block k e refl in
-      waited-by r.service r (length k.objects) w (λ t. passed-inside r seen.caller.0 k it.served t it.passed)
+      waited-by r.service r (length k.objects) w
+      (λ n t. let it = acting-objects r seen Block k n e refl in passed-inside r seen.caller.0 k it.served t it.passed)
 
 -- what is decided does not depend on the lists of the kernel
 after-lists : (e : Option OsErr) (r : Request) (seen : Around) (k : Kernel) (l : Lists) → decision_after e r seen k ≡ decision_after e r seen (with_lists k l)
-after-lists None r seen k l = refl
+after-lists None r seen k l = about-lists r seen k l
 after-lists (Some err) r seen k l = refl
 
 pub decision-lists : (r : Request) (seen : Around) (k : Kernel) (l : Lists) → decision_of r seen k ≡ decision_of r seen (with_lists k l)

@@ -1,5 +1,5 @@
 -- What a decision comes to in the records: the last micro-step of a whole step makes it.
-use Rattle.std.specs.Prelude.{◌≡◌, ◌<◌, ℕ, false, List, [], ◌∷◌, ◌++◌, length, Option, Some, None}
+use Rattle.std.specs.Prelude.{◌≡◌, ◌<◌, ℕ, Bool, true, false, List, [], ◌∷◌, ◌++◌, Option, Some, None}
 use Rattle.kern_base.specs.declared.requests.Request.{Request}
 use Rattle.kern_base.specs.declared.outcomes.Decision.{Decision}
 use Rattle.kern_base.specs.declared.outcomes.Decision.TheVariants.{Done, Block, Wake}
@@ -11,9 +11,10 @@ use Rattle.kern_base.specs.declared.outcomes.Outcome.TheVariants.{Waits}
 use Rattle.kern_base.specs.declared.outcomes.Finished.{Finished}
 use Rattle.kern_model.specs.State.{Kernel, Task, task_at, update_task}
 use Rattle.kern_model.specs.Effect.{Wait, answers, answered_task, chosen, fine, new_match, result_of, unmatched, waiting_task}
+use Rattle.kern_model.specs.Checks.{argument}
 use Rattle.kern_model.specs.FlagBits.{ready_bits}
 use Rattle.kern_model.specs.Services.{content_for}
-use Rattle.decisions.specs.Decided.{bits_in, decided, ending_of, handed, handed_result, reply, wait_of}
+use Rattle.decisions.specs.Decided.{Ending, Deleted, bits_in, decided, ending_of, gone_by, handed, handed_result, replied, wait_objects, wait_of}
 use Rattle.kernel_records.specs.RecordsRecord.{without_lists}
 use Rattle.kernel_records.specs.Deciding.{IsServedDecision, own_change}
 use Rattle.kernel_records.specs.Served.{IsSingle}
@@ -27,7 +28,7 @@ woken_of _ xs = []
 
 -- the objects for which the caller then waits
 abbrev pub objects_waited : Decision → Request → List ℕ
-objects_waited Block r = (wait_of r.service r).objects
+objects_waited Block r = wait_objects r.service r
 objects_waited _ r = []
 
 -- the bits of the event flag group that a call of x names, after this was decided of it; 0 where it names none
@@ -68,28 +69,38 @@ awakens First r xs k = awakened_all r xs k
 awakens All r xs k = awakened_all r xs k
 awakens Matching r xs k = looked_at_all (bits_in (content_for r k)) xs k
 
--- the answer of a call that wakes so many, or leaves these bits
-abbrev pub answer_of : Who → Request → ℕ → ℕ → Answer
-answer_of First r n bits = reply (ending_of r.service) n
-answer_of All r n bits = reply (ending_of r.service) n
-answer_of Matching r n bits = fine bits
+-- the answer of a call that wakes these, in the kernel in which what it is about has changed
+abbrev pub answer_of : Who → Request → List ℕ → Kernel → Answer
+answer_of First r xs k = replied r.service xs k
+answer_of All r xs k = replied r.service xs k
+answer_of Matching r xs k = fine (bits_in (content_for r k))
+
+-- whether a call that ends waits so is a deletion
+abbrev pub is_deletion : Ending → Bool
+is_deletion Deleted = true
+is_deletion _ = false
 
 -- the records after the caller x waits so
 abbrev pub waiting_from : ℕ → Wait → Kernel → Kernel
 waiting_from x w k =
     record k { tasks = update_task k.tasks x (waiting_task w); matches = k.matches ++ new_match x w.timeout k.ticks }
 
+-- the records after the caller x waits in this call
+abbrev pub waiting_in : Request → ℕ → Kernel → Kernel
+waiting_in r x k = waiting_from x (wait_of r.service r k.ticks) k
+
 -- the records after this decision on a call of caller x, which wakes these or looks at them
 abbrev pub concluded : Decision → Request → ℕ → List ℕ → Kernel → Kernel
 concluded (Done a) r x xs k = own_change r x (Done a) k
-concluded Block r x xs k = waiting_from x (wait_of r.service r) (own_change r x Block k)
-concluded (Wake who) r x xs k = awakens who r xs (own_change r x (Wake who) k)
+concluded Block r x xs k = waiting_in r x (own_change r x Block k)
+concluded (Wake who) r x xs k =
+    gone_by (ending_of r.service) (argument r 0) (awakens who r xs (own_change r x (Wake who) k))
 
--- the outcome of a decision that wakes so many, or leaves these bits
-abbrev pub outcome_of : Decision → Request → ℕ → ℕ → Outcome
-outcome_of (Done a) r n bits = answers a
-outcome_of Block r n bits = Waits
-outcome_of (Wake who) r n bits = answers (answer_of who r n bits)
+-- the outcome of a decision that wakes these, in the kernel in which what the call is about has changed
+abbrev pub outcome_of : Decision → Request → List ℕ → Kernel → Outcome
+outcome_of (Done a) r xs k = answers a
+outcome_of Block r xs k = Waits
+outcome_of (Wake who) r xs k = answers (answer_of who r xs k)
 
 -- What the decision comes to is just that in the records, whatever the lists are.
 abbrev pub IsConcluded : Type 0
@@ -100,7 +111,7 @@ IsConcluded =
 abbrev pub HasOutcome : Type 0
 HasOutcome =
     (d : Decision) (r : Request) (x compared : ℕ) (xs : List ℕ) (k : Kernel) → IsServedDecision d r.service →
-    (decided d r.service r x compared xs (own_change r x d k)).outcome ≡ outcome_of d r (length (woken_of d xs)) (bits_left r x d k)
+    (decided d r.service r x compared xs (own_change r x d k)).outcome ≡ outcome_of d r (woken_of d xs) (own_change r x d k)
 
 -- No task waits for several objects.
 abbrev pub AreSingle : Kernel → Type 0

@@ -1,5 +1,5 @@
--- What is decided of a call, by the records alone, and how what the call is about then changes: the object that it names, or the own
--- semaphore or queue of a task.
+-- What is decided of a call, by the records alone, and how what the call is about then changes: the object that it names, the own
+-- semaphore or queue of a task, or the scheduler.
 use Rattle.std.specs.Prelude.{◌≡◌, ℕ, Bool, true, false, List, length, Option, Some, None, if◌then◌else◌}
 use Rattle.kern_base.specs.declared.services.Service.{Service}
 use Rattle.kern_base.specs.declared.services.Service.TheVariants.{FlagPost}
@@ -25,11 +25,17 @@ use Rattle.msg_queues.specs.Rows as queue
 use Rattle.task_objects.specs.Rows as own
 use Rattle.task_objects.specs.Rows.{is_task_call, target, waiters}
 use Rattle.kernel_records.specs.RecordsRecord.{with_lists}
-use Rattle.kernel_records.specs.Served.{is_served_post, is_served_wait, may_wake_all}
+use Rattle.kernel_records.specs.SchedulerCalls.{is_scheduler_call, lock_after, scheduler_decision, scheduler_waiters}
+use Rattle.kernel_records.specs.Served.{is_served_wake, is_served_wait, may_wake_all}
 
--- who waits for what a call of x is about: the task whose own semaphore or queue it is, or the waiters of the object
+-- who waits for what a call of x is about: the task whose own semaphore or queue it is, the waiters of the object, or the task whose
+-- delay is to end
+abbrev pub waiters_of_objects : Request → ℕ → Kernel → List ℕ
+waiters_of_objects r x k =
+    if is_task_call r.service then waiters r.service (target r.service r x) k else list_at k.pend (argument r 0)
+
 abbrev pub waiters_of : Request → ℕ → Kernel → List ℕ
-waiters_of r x k = if is_task_call r.service then waiters r.service (target r.service r x) k else list_at k.pend (argument r 0)
+waiters_of r x k = if is_scheduler_call r.service then scheduler_waiters r.service r x k else waiters_of_objects r x k
 
 -- the object that a call names decides it, where so many messages are free
 abbrev pub decision_by : Content → ℕ → Request → Around → Decision
@@ -50,10 +56,13 @@ abbrev pub decision_by_task : Task → ℕ → Request → Around → Decision
 decision_by_task t free r seen = own.decision_of t.count t.limit t.messages free r seen
 
 -- after the checks of a call
-abbrev pub decision_about : Request → Around → Kernel → Decision
-decision_about r seen k =
+abbrev pub decision_on_objects : Request → Around → Kernel → Decision
+decision_on_objects r seen k =
     if is_task_call r.service then decision_by_task (task_at k (target r.service r seen.caller.0)) k.free r seen
     else decision_by (content_for r k) k.free r seen
+
+abbrev pub decision_about : Request → Around → Kernel → Decision
+decision_about r seen k = if is_scheduler_call r.service then scheduler_decision r seen k else decision_on_objects r seen k
 
 abbrev pub decision_after : Option OsErr → Request → Around → Kernel → Decision
 decision_after (Some err) r seen k = refusal err
@@ -95,12 +104,19 @@ own_task_after r d t =
 abbrev pub task_change : Request → ℕ → Decision → Kernel → Kernel
 task_change r y d k = record (with_task k y (own_task_after r d)) { free = own.free_after r.service d k.free }
 
+-- the kernel after the scheduler has changed
+abbrev pub scheduler_change : Request → Decision → Kernel → Kernel
+scheduler_change r d k = record k { lock = lock_after r.service d k.lock }
+
 -- the kernel after what a call of x is about has changed
 abbrev pub changed_by : Request → ℕ → Decision → Kernel → Kernel
 changed_by r x d k = if is_task_call r.service then task_change r (target r.service r x) d k else object_change r d k
 
+abbrev pub changed_objects : Request → ℕ → Decision → Kernel → Kernel
+changed_objects r x d k = if acts d then changed_by r x d k else k
+
 abbrev pub own_change : Request → ℕ → Decision → Kernel → Kernel
-own_change r x d k = if acts d then changed_by r x d k else k
+own_change r x d k = if is_scheduler_call r.service then scheduler_change r d k else changed_objects r x d k
 
 -- A decision is what the service does, whatever the kernel's lists are: those that wait for what the call is about have been seen.
 abbrev pub IsRow : Request → Around → Decision → Kernel → Type 0
@@ -122,6 +138,6 @@ IsObjectRow r seen d c free =
 abbrev pub IsServedDecision : Decision → Service → Type 0
 IsServedDecision (Done a) s = Unit {0}
 IsServedDecision Block s = is_served_wait s ≡ true
-IsServedDecision (Wake First) s = is_served_post s ≡ true
+IsServedDecision (Wake First) s = is_served_wake s ≡ true
 IsServedDecision (Wake All) s = may_wake_all s ≡ true
 IsServedDecision (Wake Matching) s = s ≡ FlagPost

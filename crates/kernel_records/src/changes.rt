@@ -4,13 +4,14 @@ ghost use Rattle.std.specs.Prelude.{◌≡◌, ◌<◌, ◌∷◌, [], All, slic
 ghost use Rattle.kern_base.specs.declared.outcomes.Waiting.TheVariants.{Obj};
 ghost use Rattle.kern_model.specs.State.{update_task, no_task};
 ghost use Rattle.kern_model.specs.Effect.{answered_task, waiting_task, plain_result, result_of};
-ghost use Rattle.decisions.specs.Decided.{wait_of};
+ghost use Rattle.decisions.specs.Decided.{wait_objects, wait_of};
 ghost use Rattle.kernel_records.specs.Served.{IsSingle, is_served_wait};
 ghost use Rattle.kernel_records.specs.TaskChanges.{cleared_task, stopped_task};
 ghost use Rattle.tcb_pool.specs.TaskView.{task_of};
 
 use kern_base::{Answer, Finished, Request, Service, TaskId, Waiting};
 use tcb_pool::{Tcb, Tcbs};
+use tick_timers::Ticks;
 
 // The result of a call other than OSPendMulti.
 fn plain_result(service: Service, answer: Answer) -> Finished
@@ -54,32 +55,32 @@ pub(crate) fn answer_task(tasks: &mut Tcbs, task: TaskId, answer: Answer)
     tasks.set(task, tcb);
 }
 
-// The caller waits so. Gives its timeout.
-pub(crate) fn wait_for(tasks: &mut Tcbs, task: TaskId, request: &Request) -> u32
+// The caller waits so, at this tick. Gives its timeout.
+pub(crate) fn wait_for(tasks: &mut Tcbs, task: TaskId, request: &Request, ticks: &Ticks) -> u32
     requires task { task.0 < 64 }
     requires service { is_served_wait request.now.service ≡ true }
-    requires objects { All (λ o. o < 64) (wait_of request.now.service request.now).objects }
-    ensures tasks { tasks.new.tasks ≡ update_task tasks.old.tasks task.0 (waiting_task (wait_of request.now.service request.now)) }
+    requires objects { All (λ o. o < 64) (wait_objects request.now.service request.now) }
+    ensures tasks { tasks.new.tasks ≡ update_task tasks.old.tasks task.0 (waiting_task (wait_of request.now.service request.now ticks.now.ticks)) }
     ensures registers { tasks.new.registers ≡ tasks.old.registers }
-    ensures timeout { result ≡ (wait_of request.now.service request.now).timeout }
+    ensures timeout { result ≡ (wait_of request.now.service request.now ticks.now.ticks).timeout }
 {
     let mut tcb = *tasks.get(task);
     tcb.mask = 0;
     tcb.opt = 0;
     tcb.table = 0;
-    let timeout = begin_wait(&mut tcb, request);
+    let timeout = begin_wait(&mut tcb, request, ticks);
     tasks.set(task, tcb);
     timeout
 }
 
-// Writes what a task waits for that waits in this call. Gives its timeout.
-fn begin_wait(tcb: &mut Tcb, request: &Request) -> u32
+// Writes what a task waits for that waits in this call, at this tick. Gives its timeout.
+fn begin_wait(tcb: &mut Tcb, request: &Request, ticks: &Ticks) -> u32
     requires service { is_served_wait request.now.service ≡ true }
-    requires objects { All (λ o. o < 64) (wait_of request.now.service request.now).objects }
+    requires objects { All (λ o. o < 64) (wait_objects request.now.service request.now) }
     requires fresh { (tcb.old.mask ≡ 0) × (tcb.old.opt ≡ 0) × (tcb.old.table ≡ 0) }
-    ensures task { task_of tcb.new ≡ waiting_task (wait_of request.now.service request.now) (task_of tcb.old) }
+    ensures task { task_of tcb.new ≡ waiting_task (wait_of request.now.service request.now ticks.now.ticks) (task_of tcb.old) }
     ensures registers { tcb.new.regs ≡ tcb.old.regs }
-    ensures timeout { result ≡ (wait_of request.now.service request.now).timeout }
+    ensures timeout { result ≡ (wait_of request.now.service request.now ticks.now.ticks).timeout }
 {
     match request.service {
         Service::TaskSemPend => {
@@ -91,6 +92,11 @@ fn begin_wait(tcb: &mut Tcb, request: &Request) -> u32
             tcb.wait = Waiting::TaskQ;
             tcb.n_ids = 0;
             request.args[0]
+        }
+        Service::TimeDly => {
+            tcb.wait = Waiting::Delay;
+            tcb.n_ids = 0;
+            ticks.delay(request)
         }
         Service::FlagPend => {
             wait_on_object(tcb, request);

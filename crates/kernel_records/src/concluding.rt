@@ -1,72 +1,115 @@
 // What was decided of a call is made.
 
-ghost use Rattle.std.specs.Prelude.{◌≡◌, ◌<◌, ◌≤◌, ◌++◌, All, length, slice_index, slice_set, true};
+ghost use Rattle.std.specs.Prelude.{◌≡◌, ◌≢◌, ◌<◌, ◌≤◌, ◌++◌, All, false, length, slice_index, slice_set, true};
+ghost use Rattle.kern_base.specs.declared.services.Service.TheVariants.{SchedLock};
 ghost use Rattle.kern_base.specs.declared.outcomes.Decision.TheVariants.{Block, Wake};
-ghost use Rattle.kern_model.specs.State.{object_at, task_at};
+ghost use Rattle.kern_model.specs.State.{nesting_limit, object_at, task_at};
 ghost use Rattle.kern_model.specs.Effect.{new_match, result_of, unmatched};
 ghost use Rattle.kern_model.specs.Services.{content_for};
-ghost use Rattle.decisions.specs.Decided.{bits_in, wait_of};
+ghost use Rattle.kern_model.specs.Waiters.{messages_in, without_object};
+ghost use Rattle.decisions.specs.Decided.{bits_in, ending_of, replied, wait_objects};
 ghost use Rattle.message_store.specs.Store.{queue_at};
 ghost use Rattle.kernel_records.specs.ObjectView.{content_seen};
+ghost use Rattle.tick_timers.specs.Matches.{IsUnmatched};
 ghost use Rattle.kernel_records.specs.Served.{IsSingle, is_served_wait};
-ghost use Rattle.kernel_records.specs.Deciding.{IsCallOn, IsServedDecision, acts, content_after, decision_by, decision_of, free_after, object_change, own_change};
-ghost use Rattle.kernel_records.specs.Concluding.{AreSingle, answer_of, awakened_all, awakens, bits_left, concluded, given, looked_at, looked_at_all, objects_waited, outcome_of, waiting_from};
+ghost use Rattle.kernel_records.specs.SchedulerCalls.{is_scheduler_call, lock_after};
+ghost use Rattle.kernel_records.specs.Deciding.{IsCallOn, IsServedDecision, acts, changed_by, content_after, decision_by, decision_of, free_after, object_change, own_change};
+ghost use Rattle.kernel_records.specs.Concluding.{AreSingle, answer_of, awakened_all, awakens, concluded, given, looked_at, is_deletion, looked_at_all, objects_waited, outcome_of, waiting_in};
 
 use crate::changes::{answer_task, wait_for};
 use crate::objects::Content;
 use crate::records::Records;
+use crate::scheduler_calls::is_scheduler_call;
 use crate::task_calls::{is_task_call, target};
-use arrayvec::ArrayVec;
-use decisions::{handed, reply, success};
+use decisions::{ended_delay, handed, reply, success};
 use event_flags::FlagGroup;
-use kern_base::{Answer, Around, Decision, ObjId, OsErr, Outcome, Request, TaskId, Who};
+use kern_base::{Answer, Around, Decision, ObjId, OsErr, Outcome, Request, Service, TaskId, Who};
 use message_store::MessageStore;
+use tick_timers::Ticks;
 
 impl Records {
     /// Makes what was decided of a call: what the call is about changes, tasks are woken in this order, or looked at by a post of
-    /// event flags, or the caller waits.
+    /// event flags, or the caller waits. What the call came to is written over an older outcome, whatever that was.
     pub fn conclude(
         &mut self,
         request: &Request,
         seen: &Around,
         decision: &Decision,
         woken: &[u8],
-    ) -> Outcome
+        outcome: &mut Outcome,
+    )
         requires caller { seen.now.caller.0 < 64 }
         requires decided { decision.now ≡ decision_of request.now seen.now self.old.state }
         requires served { IsServedDecision decision.now request.now.service }
         requires woken { All (λ x. x < 64) woken.now }
         requires few { length woken.now ≤ 64 }
         requires single { AreSingle self.old.state }
-        requires room { decision.now ≡ Block → length self.old.state.matches < 64 }
+        requires fresh { decision.now ≡ Block → IsUnmatched seen.now.caller.0 self.old.state.matches }
         requires objects { All (λ o. o < 64) (objects_waited decision.now request.now) }
         ensures records { self.new ≡ record self.old { state = concluded decision.now request.now seen.now.caller.0 woken.now self.old.state } }
-        ensures outcome { result ≡ outcome_of decision.now request.now (length woken.now) (bits_left request.now seen.now.caller.0 decision.now self.old.state) }
+        ensures outcome { outcome.new ≡ outcome_of decision.now request.now woken.now (own_change request.now seen.now.caller.0 decision.now self.old.state) }
     {
         match decision {
             Decision::Done(answer) => {
-                if answer.err == OsErr::NoError {
+                if answer.err == OsErr::NoError || is_scheduler_call(request.service) {
                     self.apply(request, seen, decision);
                 }
-                Outcome::Answered(*answer, None)
+                *outcome = Outcome::Answered(*answer, None);
             }
             Decision::Block => {
                 self.wait(seen.caller, request);
-                Outcome::Waits
+                *outcome = Outcome::Waits;
             }
             Decision::Wake(who) => {
                 self.apply(request, seen, decision);
-                Outcome::Answered(self.wake_some(request, *who, woken), None)
+                let answer = self.wake_some(request, *who, woken);
+                if is_deletion(request.service) {
+                    self.delete_object(request);
+                }
+                *outcome = Outcome::Answered(answer, None);
             }
         }
     }
 
-    // The change of what a call is about, which is not refused: the own semaphore or queue of a task, or the object that it names.
+    // The change of what a call is about: the scheduler, or where the call is not refused the own semaphore or queue of a task, or
+    // the object that it names.
     fn apply(&mut self, request: &Request, seen: &Around, decision: &Decision)
         requires caller { seen.now.caller.0 < 64 }
         requires decided { decision.now ≡ decision_of request.now seen.now self.old.state }
-        requires acts { acts decision.now ≡ true }
+        requires acts { is_scheduler_call request.now.service ≡ false → acts decision.now ≡ true }
         ensures { self.new ≡ record self.old { state = own_change request.now seen.now.caller.0 decision.now self.old.state } }
+    {
+        if is_scheduler_call(request.service) {
+            self.change_lock(request.service, decision);
+        } else {
+            self.apply_to_objects(request, seen, decision);
+        }
+    }
+
+    // The scheduler is locked once more, or once less.
+    fn change_lock(&mut self, service: Service, decision: &Decision)
+        requires { service ≡ SchedLock → acts decision.now ≡ true → self.old.state.lock ≢ nesting_limit }
+        ensures { self.new ≡ record self.old { state = record self.old.state { lock = lock_after service decision.now self.old.state.lock } } }
+    {
+        let Decision::Done(answer) = decision else {
+            return;
+        };
+        match service {
+            Service::SchedLock if answer.err == OsErr::NoError => self.lock += 1,
+            Service::SchedUnlock if answer.err == OsErr::NoError || answer.value != 0 => {
+                self.lock = self.lock.saturating_sub(1);
+            }
+            _ => {}
+        }
+    }
+
+    // The change of a task's own semaphore or queue, or of the object that a call names.
+    fn apply_to_objects(&mut self, request: &Request, seen: &Around, decision: &Decision)
+        requires caller { seen.now.caller.0 < 64 }
+        requires decided { decision.now ≡ decision_of request.now seen.now self.old.state }
+        requires call { is_scheduler_call request.now.service ≡ false }
+        requires acts { acts decision.now ≡ true }
+        ensures { self.new ≡ record self.old { state = changed_by request.now seen.now.caller.0 decision.now self.old.state } }
     {
         if is_task_call(request.service) {
             self.messages
@@ -95,16 +138,26 @@ impl Records {
         );
     }
 
+    // The object that a call names is deleted. Its messages are free already.
+    fn delete_object(&mut self, request: &Request)
+        requires object { slice_index request.now.args 0 < length self.old.state.objects }
+        requires empty { messages_in (object_at self.old.state (slice_index request.now.args 0)).content ≡ 0 }
+        ensures { self.new ≡ record self.old { state = without_object (slice_index request.now.args 0) self.old.state } }
+    {
+        let object = &mut self.objects[request.args[0] as usize];
+        object.deleted = true;
+    }
+
     // The caller waits from now on, and where its timeout is not 0 it gets a match.
     fn wait(&mut self, caller: TaskId, request: &Request)
         requires caller { caller.0 < 64 }
         requires service { is_served_wait request.now.service ≡ true }
-        requires objects { All (λ o. o < 64) (wait_of request.now.service request.now).objects }
-        requires room { length self.old.state.matches < 64 }
-        ensures { self.new ≡ record self.old { state = waiting_from caller.0 (wait_of request.now.service request.now) self.old.state } }
+        requires objects { All (λ o. o < 64) (wait_objects request.now.service request.now) }
+        requires fresh { IsUnmatched caller.0 self.old.state.matches }
+        ensures { self.new ≡ record self.old { state = waiting_in request.now caller.0 self.old.state } }
     {
-        let timeout = wait_for(&mut self.tasks, caller, request);
-        add_match(&mut self.matches, caller.0, timeout, self.ticks);
+        let timeout = wait_for(&mut self.tasks, caller, request, &self.ticks);
+        add_match(&mut self.ticks, caller, timeout);
     }
 
     // Wakes these tasks, or looks at them for a post of event flags. Gives the answer of the call.
@@ -114,7 +167,7 @@ impl Records {
         requires few { length woken.now ≤ 64 }
         requires single { AreSingle self.old.state }
         ensures records { self.new ≡ record self.old { state = awakens who request.now woken.now self.old.state } }
-        ensures answer { result ≡ answer_of who request.now (length woken.now) (bits_in (content_for request.now self.old.state)) }
+        ensures answer { result ≡ answer_of who request.now woken.now self.old.state }
     {
         match who {
             Who::Matching => {
@@ -123,9 +176,24 @@ impl Records {
                 success(bits)
             }
             _ => {
+                let answer = self.reply(request.service, woken);
                 self.wake_all(request, woken);
-                reply(request.service, woken.len() as u32)
+                answer
             }
+        }
+    }
+
+    // The answer of the call that wakes these.
+    fn reply(&self, service: Service, woken: &[u8]) -> Answer
+        requires woken { All (λ x. x < 64) woken.now }
+        requires few { length woken.now ≤ 64 }
+        ensures { result ≡ replied service woken.now self.now.state }
+    {
+        match (service, woken.first()) {
+            (Service::TimeDlyResume, Some(task)) => ended_delay(
+                self.tasks.get(TaskId(*task)).suspended,
+            ),
+            _ => reply(service, woken.len() as u32),
         }
     }
 
@@ -180,8 +248,18 @@ impl Records {
         ensures { self.new ≡ record self.old { state = given task.0 (result_of answer) self.old.state } }
     {
         answer_task(&mut self.tasks, task, answer);
-        drop_match(&mut self.matches, task.0);
+        self.ticks.remove(task);
     }
+}
+
+// Whether a call of this service deletes an object.
+fn is_deletion(service: Service) -> bool
+    ensures { result ≡ is_deletion (ending_of service) }
+{
+    matches!(
+        service,
+        Service::SemDel | Service::QDel | Service::FlagDel | Service::MutexDel
+    )
 }
 
 // The change of an object by a call on it. The messages of a queue stand in the store.
@@ -208,18 +286,12 @@ fn apply_to(
 }
 
 // Where the timeout is not 0, the task gets a match.
-fn add_match(matches: &mut ArrayVec<(u8, u32), 64>, task: u8, timeout: u32, ticks: u32)
-    requires { length matches.old.items < 64 }
-    ensures { matches.new.items ≡ matches.old.items ++ new_match task timeout ticks }
+fn add_match(ticks: &mut Ticks, task: TaskId, timeout: u32)
+    requires task { task.0 < 64 }
+    requires fresh { IsUnmatched task.0 ticks.old.matches }
+    ensures { ticks.new ≡ record ticks.old { matches = ticks.old.matches ++ new_match task.0 timeout ticks.old.ticks } }
 {
     if timeout != 0 {
-        matches.push((task, ticks.wrapping_add(timeout)));
+        ticks.add(task, ticks.now().wrapping_add(timeout));
     }
-}
-
-// The task's match is gone.
-fn drop_match(matches: &mut ArrayVec<(u8, u32), 64>, task: u8)
-    ensures { matches.new.items ≡ unmatched task matches.old.items }
-{
-    matches.retain(|entry| entry.0 != task);
 }

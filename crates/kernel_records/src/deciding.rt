@@ -10,12 +10,15 @@ ghost use Rattle.kern_model.specs.Services.{content_for};
 ghost use Rattle.kern_model.specs.Served.{program_serves};
 ghost use Rattle.task_objects.specs.Rows.{is_task_call, target};
 ghost use Rattle.kernel_records.specs.Concluding.{bits_left};
-ghost use Rattle.kernel_records.specs.Deciding.{IsCallOn, IsObjectRow, IsRow, IsServedDecision, decision_about, decision_by, decision_of};
+ghost use Rattle.kernel_records.specs.Served.{serves_object};
+ghost use Rattle.kernel_records.specs.SchedulerCalls.{is_scheduler_call};
+ghost use Rattle.kernel_records.specs.Deciding.{IsCallOn, IsObjectRow, IsRow, IsServedDecision, decision_about, decision_by, decision_of, decision_on_objects};
 ghost use Rattle.kernel_records.specs.ObjectView.{content_seen};
 ghost use Rattle.message_store.specs.Store.{queue_at};
 
 use crate::objects::Content;
 use crate::records::Records;
+use crate::scheduler_calls::is_scheduler_call;
 use crate::task_calls::{is_task_call, target};
 use call_checks::{argument_refusal, existence_refusal, is_served, named_task};
 use decisions::refuse;
@@ -101,6 +104,22 @@ impl Records {
         ensures row { IsRow request.now seen.now result self.now.state }
         ensures served { IsServedDecision result request.now.service }
     {
+        if is_scheduler_call(request.service) {
+            self.decide_on_scheduler(request, seen)
+        } else {
+            self.decide_on_objects(request, seen)
+        }
+    }
+
+    // The decision of a task's own semaphore or queue, or of an object.
+    fn decide_on_objects(&self, request: &Request, seen: &Around) -> Decision
+        requires caller { seen.now.caller.0 < 64 }
+        requires served { serves_object request.now.service ≡ true }
+        requires passed { call_error request.now seen.now.caller.0 self.now.state ≡ None }
+        ensures value { result ≡ decision_on_objects request.now seen.now self.now.state }
+        ensures row { IsRow request.now seen.now result self.now.state }
+        ensures served { IsServedDecision result request.now.service }
+    {
         if is_task_call(request.service) {
             self.messages
                 .decide_own(target(request, seen.caller), request, seen)
@@ -111,7 +130,7 @@ impl Records {
 
     // The decision of the object that a call names.
     fn decide_on_object(&self, request: &Request, seen: &Around) -> Decision
-        requires served { program_serves request.now.service ≡ true }
+        requires served { serves_object request.now.service ≡ true }
         requires object { is_task_call request.now.service ≡ false }
         requires passed { call_error request.now seen.now.caller.0 self.now.state ≡ None }
         ensures value { result ≡ decision_by (content_for request.now self.now.state) self.now.state.free request.now seen.now }

@@ -1,7 +1,7 @@
 // The records of the kernel.
 
-ghost use Rattle.std.specs.Prelude.{◌≡◌, ◌<◌, true, IfOk, Some, List, length, map, slice_set, slice_index_or};
-ghost use Rattle.kern_model.specs.State.{Task, task_at, is_ready, kinds_of};
+ghost use Rattle.std.specs.Prelude.{◌≡◌, ◌<◌, ◌≤◌, true, IfOk, Some, List, length, map, slice_set, slice_index_or};
+ghost use Rattle.kern_model.specs.State.{Task, task_at, is_ready, kinds_of, nesting_limit};
 ghost use Rattle.kern_model.specs.Valid.{has_result};
 ghost use Rattle.kern_model.specs.Finish.{consumed_in, consumed_object, finished, flags_consumed};
 ghost use Rattle.machine_model.specs.Answers.{size_of, with_answer};
@@ -19,13 +19,13 @@ use crate::changes::{clear_result, stop_task};
 use crate::objects::{Content, Object};
 use crate::starting::{start_kinds, start_objects};
 use app_image::Image;
-use arrayvec::ArrayVec;
 use kern_base::{Answer, Finished, Kinds, NoMemory, OsErr, Prio, Service, TaskId};
 use message_store::MessageStore;
 use rv32_exec::{Program, Ram, Stepped};
 use std::alloc::Global;
 use std::marker::Model;
 use tcb_pool::{Tcb, Tcbs};
+use tick_timers::Ticks;
 
 // What services read of the image.
 #[derive(Clone, Copy)]
@@ -36,15 +36,14 @@ pub(crate) struct Settings {
     pub pool: u32,
 }
 
-/// The records of the kernel: its tasks, its objects, the matches of timeouts, the counters and the lock. All its memory is
+/// The records of the kernel: its tasks, its objects, the ticks and who waits for one, the counters and the lock. All its memory is
 /// taken by `new`. Contracts see the kernel's state without its lists.
 #[derive(Drop)]
 pub struct Records {
     pub(crate) tasks: Tcbs,
     pub(crate) objects: Vec<Object>,
     pub(crate) kinds: Kinds,
-    pub(crate) matches: ArrayVec<(u8, u32), 64>,
-    pub(crate) ticks: u32,
+    pub(crate) ticks: Ticks,
     pub(crate) timer_count: u32,
     pub(crate) tick_signals: u32,
     pub(crate) timer_signals: u32,
@@ -78,8 +77,7 @@ impl Records {
             tasks: Tcbs::new(image),
             objects: start_objects(alloc, image.objects())?,
             kinds: start_kinds(image.objects(), image.tasks().len() as u8),
-            matches: ArrayVec::new(),
-            ticks: 0,
+            ticks: Ticks::new(),
             timer_count: 0,
             tick_signals: 0,
             timer_signals: 0,
@@ -106,7 +104,8 @@ impl Records {
 
     /// How often the scheduler is locked, 0 to 250.
     pub fn lock(&self) -> u8
-        ensures { result ≡ self.now.state.lock }
+        ensures value { result ≡ self.now.state.lock }
+        ensures few { result ≤ nesting_limit }
     {
         self.lock
     }

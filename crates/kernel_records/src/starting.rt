@@ -5,8 +5,7 @@ ghost use Rattle.kern_model.specs.Start.{object_of, timer_of};
 ghost use Rattle.kernel_records.specs.ObjectView.{declared_queue, object_seen, objects_in, timer_seen};
 
 use crate::objects::{Content, Object, Timer};
-use app_image::ObjDef;
-use arrayvec::ArrayVec;
+use app_image::{ObjDef, kinds_in};
 use event_flags::FlagGroup;
 use kern_base::{Kind, Kinds, NoMemory};
 use semaphores::Sem;
@@ -32,11 +31,7 @@ pub(crate) fn start_kinds(defs: &[ObjDef], tasks: u8) -> Kinds
     ensures objects { result.objects ≡ map (λ d. d.kind) defs.now }
     ensures tasks { result.tasks ≡ tasks }
 {
-    let mut kinds = ArrayVec::new();
-    for def in defs {
-        kinds.push(def.kind);
-    }
-    Kinds::new(kinds, tasks)
+    Kinds::new(kinds_in(defs), tasks)
 }
 
 // An object as it was declared; the messages of a queue stand in the store.

@@ -9,12 +9,10 @@ use Rattle.kern_model.specs.Served.{program_serves}
 use Rattle.kern_model.specs.Valid.{IsLinked}
 use Rattle.kern_model.proofs.Lemmas.{unequal}
 use Rattle.machine_laws.specs.Valid.{IsValidMachine}
-use Rattle.machine_laws.proofs.RestLaws.{IsActing}
+use Rattle.machine_laws.proofs.Lemmas.{IsActing, applies, act}
 use Rattle.machine_model.specs.Machine.{Machine}
 use Rattle.machine_model.specs.Rules.{Rule, TaskActs, rule}
 use Rattle.machine_laws.specs.RuleTable.{Applies}
-use Rattle.machine_laws.proofs.RuleFacts.{applies}
-use Rattle.machine_laws.proofs.ActValid.{act}
 use Rattle.machine_core.specs.Valid.{IsStill}
 
 -- Of the internal tasks the idle task alone is ready.

@@ -1,6 +1,6 @@
 -- Which interrupt comes, and what goes on where none does.
 use Rattle.std.specs.List.{Contains}
-use Rattle.machine_laws.proofs.DueLaws.{due-is}
+use Rattle.machine_laws.proofs.Lemmas.{due-is}
 use Rattle.std.specs.Prelude.{is_some, IsSomeAnd, ◌&&◌, not, nat_le, is_none, option_map, slice_get, drop}
 use Rattle.std.proofs.Common.{◌≡◌, inl, inr, ◌<◌, ◌≤◌, ℕ, Bool, true, false, List, [], ◌∷◌, Option, Some, None, refl, sym, ap, ◌∙◌, arith}
 use Rattle.std.proofs.lemmas.Bool.Decides.{leb_tells}
@@ -16,7 +16,8 @@ use Rattle.machine_core.specs.MachineView.{Parts}
 use Rattle.machine_model.specs.Machine.{Machine, WholeStep}
 use Rattle.machine_model.specs.Settling.{is_free}
 use Rattle.machine_model.specs.Rules.{Enters, FrameLimit, FrameRuns, rule, rule_of_due, rule_of_frames, is_masked, is_quiet, may_take}
-use Rattle.machine_core.specs.MachineView.{machine_of, hand_of}
+use Rattle.machine_core.specs.MethodMachine.{MethodMachine}
+use Rattle.machine_core.specs.MachineView.{machine_of, method_machine_of, hand_of}
 use Rattle.machine_core.specs.Valid.{is_direct}
 
 -- whether nothing is in hand
@@ -37,11 +38,23 @@ due-asked a free e =
     ap (λ (b : Bool). due (is_masked a.method (hand_of a.kernel.hand)) (b && not (may_take (machine_of a))) a.s a.t a.frames.frames (interrupts a.frames)) same
     ∙ ap (λ (b : Bool). due b (free && not (may_take (machine_of a))) a.s a.t a.frames.frames (interrupts a.frames)) (masked-is a.method free (hand_of a.kernel.hand) same)
 
-by_due : (a : Parts) (free masked quiet : Bool) (o : Option Place) → a.begun ≡ true → look_at a.s a.looks ≡ None → free ≡ is_none a.kernel.hand → masked ≡ (not free && is_direct a.method) → quiet ≡ (free && not (may_take (machine_of a))) → due masked quiet a.s a.t a.frames.frames (interrupts a.frames) ≡ o → rule a.method (machine_of a) ≡ rule_of_due o (machine_of a)
-by_due a free masked quiet o begun no_look e em eq d =
-    let first : rule a.method (machine_of a) ≡ rule_of_due (due (is_masked a.method (hand_of a.kernel.hand)) (is_quiet (machine_of a)) a.s a.t a.frames.frames (interrupts a.frames)) (machine_of a) = rw (begun, no_look) refl in
-    let told : due (not free && is_direct a.method) (free && not (may_take (machine_of a))) a.s a.t a.frames.frames (interrupts a.frames) ≡ o = rw (em, eq) at d in
-    first ∙ ap (λ (p : Option Place). rule_of_due p (machine_of a)) (due-asked a free e ∙ told)
+-- What was asked before it is told which interrupt is due.
+pub record Asked (a : Parts) (free masked quiet : Bool) : Type 0 where
+  pub begun : a.begun ≡ true
+  pub no_look : look_at a.s a.looks ≡ None
+  pub free_is : free ≡ is_none a.kernel.hand
+  pub masked_is : masked ≡ (not free && is_direct a.method)
+  pub quiet_is : quiet ≡ (free && not (may_take (machine_of a)))
+
+pub asked : (m : MethodMachine) (a : Parts) (free masked quiet : Bool) → method_machine_of a ≡ m → m.state.begun ≡ true → look_at m.state.s m.state.looks ≡ None → free ≡ is_none a.kernel.hand → masked ≡ (not free && is_direct m.method) → quiet ≡ (free && not (may_take m.state)) → Asked a free masked quiet
+asked m a free masked quiet is begun no_look f k q =
+    record { begun = rw (← is) at begun; no_look = rw (← is) at no_look; free_is = f; masked_is = rw (← is) at k; quiet_is = rw (← is) at q }
+
+by_due : (a : Parts) (free masked quiet : Bool) (o : Option Place) → Asked a free masked quiet → due masked quiet a.s a.t a.frames.frames (interrupts a.frames) ≡ o → rule a.method (machine_of a) ≡ rule_of_due o (machine_of a)
+by_due a free masked quiet o q d =
+    let first : rule a.method (machine_of a) ≡ rule_of_due (due (is_masked a.method (hand_of a.kernel.hand)) (is_quiet (machine_of a)) a.s a.t a.frames.frames (interrupts a.frames)) (machine_of a) = rw (q.begun, q.no_look) refl in
+    let told : due (not free && is_direct a.method) (free && not (may_take (machine_of a))) a.s a.t a.frames.frames (interrupts a.frames) ≡ o = rw (q.masked_is, q.quiet_is) at d in
+    first ∙ ap (λ (p : Option Place). rule_of_due p (machine_of a)) (due-asked a free q.free_is ∙ told)
 
 -- This interrupt comes.
 pub record Comes (a : Parts) (number : ℕ) : Type 0 where
@@ -52,8 +65,8 @@ pub record Comes (a : Parts) (number : ℕ) : Type 0 where
   pub there : Contains (interrupts a.frames) place.interrupt
   pub taken : interrupts (record { frames = []; waiting = without_number number a.frames.waiting }) ≡ taken_at place.at (interrupts a.frames)
 
-pub it-comes : (a : Parts) (free masked quiet : Bool) (number : ℕ) → a.begun ≡ true → look_at a.s a.looks ≡ None → free ≡ is_none a.kernel.hand → masked ≡ (not free && is_direct a.method) → quiet ≡ (free && not (may_take (machine_of a))) → IsRising 0 a.frames.waiting → due_number masked quiet a.s a.t a.frames.frames a.frames.waiting ≡ Some number → Comes a number
-it-comes a free masked quiet number begun no_look e em eq rise d = by (due masked quiet a.s a.t a.frames.frames (interrupts a.frames)) refl d
+pub it-comes : (a : Parts) (free masked quiet : Bool) (number : ℕ) → Asked a free masked quiet → IsRising 0 a.frames.waiting → due_number masked quiet a.s a.t a.frames.frames a.frames.waiting ≡ Some number → Comes a number
+it-comes a free masked quiet number q rise d = by (due masked quiet a.s a.t a.frames.frames (interrupts a.frames)) refl d
   where
     by : (o : Option Place) → due masked quiet a.s a.t a.frames.frames (interrupts a.frames) ≡ o → option_map (λ p. number_at p.at a.frames.waiting) o ≡ Some number → Comes a number
     by None f g = cc
@@ -62,7 +75,7 @@ it-comes a free masked quiet number begun no_look e em eq rise d = by (due maske
         let same : number_at p.at a.frames.waiting ≡ number = cc in
         record {
           place = p;
-          rule_is = by_due a free masked quiet (Some p) begun no_look e em eq f;
+          rule_is = by_due a free masked quiet (Some p) q f;
           waits = rw same at may.interrupt;
           above = may.above;
           there = (due-is masked quiet a.s a.t a.frames.frames (interrupts a.frames) p f).there;
@@ -70,11 +83,11 @@ it-comes a free masked quiet number begun no_look e em eq rise d = by (due maske
         }
 
 -- none does
-pub none-comes : (a : Parts) (free masked quiet : Bool) → a.begun ≡ true → look_at a.s a.looks ≡ None → free ≡ is_none a.kernel.hand → masked ≡ (not free && is_direct a.method) → quiet ≡ (free && not (may_take (machine_of a))) → due_number masked quiet a.s a.t a.frames.frames a.frames.waiting ≡ None → rule a.method (machine_of a) ≡ rule_of_frames a.frames.frames (machine_of a)
-none-comes a free masked quiet begun no_look e em eq d = by (due masked quiet a.s a.t a.frames.frames (interrupts a.frames)) refl d
+pub none-comes : (a : Parts) (free masked quiet : Bool) → Asked a free masked quiet → due_number masked quiet a.s a.t a.frames.frames a.frames.waiting ≡ None → rule a.method (machine_of a) ≡ rule_of_frames a.frames.frames (machine_of a)
+none-comes a free masked quiet q d = by (due masked quiet a.s a.t a.frames.frames (interrupts a.frames)) refl d
   where
     by : (o : Option Place) → due masked quiet a.s a.t a.frames.frames (interrupts a.frames) ≡ o → option_map (λ p. number_at p.at a.frames.waiting) o ≡ None → rule a.method (machine_of a) ≡ rule_of_frames a.frames.frames (machine_of a)
-    by None f g = by_due a free masked quiet None begun no_look e em eq f
+    by None f g = by_due a free masked quiet None q f
     by (Some p) f g = cc
 
 pub may-enter : (a : Parts) (number : ℕ) → Comes a number → IsSomeAnd (waiting_at number a.frames.waiting) (λ i. level_of a.frames.frames < i.level)

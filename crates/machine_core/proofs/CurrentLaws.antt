@@ -11,6 +11,7 @@ use Rattle.kern_base.specs.Services.{is_post, service_of, interrupt_error}
 use Rattle.kern_model.specs.State.{Kernel, task_at, idle_task, pick}
 use Rattle.kern_model.specs.Valid.{IsLinked}
 use Rattle.kern_model.specs.Services.{cost}
+use Rattle.kern_model.proofs.Lemmas.{choice}
 use Rattle.rv32_exec.specs.Registers.{Registers, read}
 use Rattle.rv32_exec.specs.Exec.{Execution, exec}
 use Rattle.rv32_exec.specs.declared.Stepped.{Stepped}
@@ -27,8 +28,7 @@ use Rattle.machine_model.specs.Interrupts.{without_top, leaves, frame_goes_on, f
 use Rattle.machine_model.specs.Steps.{call_ends, unit_ends, ends, advances}
 use Rattle.machine_model.specs.Acts.{acts, instructs, idles, starts_unit, works_in_units}
 use Rattle.machine_model.specs.Rules.{Rule, Begins, Looks, Enters, FrameLimit, FrameRuns, MicroStep, TakeBegins, TaskActs, done}
-use Rattle.machine_model.proofs.CountLaws.{choice}
-use Rattle.machine_laws.proofs.PickLaws.{ready-pick, ready-below}
+use Rattle.machine_laws.proofs.Lemmas.{ready-pick, ready-below}
 
 -- the current task is x, or the one that the scheduler picks
 abbrev Stays : ℕ → Machine → Type 0

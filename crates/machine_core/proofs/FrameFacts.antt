@@ -34,7 +34,7 @@ use Rattle.machine_model.specs.Answers.{Change}
 use Rattle.machine_model.specs.Settling.{is_free}
 use Rattle.machine_model.specs.Interrupts.{leaves, frame_runs, argument_words, ran}
 use Rattle.machine_model.specs.Rules.{Enters, FrameLimit, FrameRuns, rule, raw}
-use Rattle.machine_laws.proofs.DueLaws.{all-taken_at}
+use Rattle.machine_laws.proofs.Lemmas.{all-taken_at}
 use Rattle.machine_laws.specs.Valid.{IsValidMachine}
 use Rattle.deferred_queue.specs.QueueRecord.{QueueRecord}
 use Rattle.machine_core.specs.Posts.{post_at_once, post_later}

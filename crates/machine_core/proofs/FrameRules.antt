@@ -13,6 +13,7 @@ use Rattle.kern_base.specs.declared.outcomes.Answer.{Answer}
 use Rattle.kern_base.specs.declared.services.Service.{Service}
 use Rattle.kern_model.specs.State.{Kernel, prio_of, kinds_of}
 use Rattle.kern_model.specs.Served.{program_serves}
+use Rattle.kern_model.proofs.Lemmas.{choice}
 use Rattle.kernel_calls.specs.KernelRecord.{KernelRecord}
 use Rattle.rv32_exec.specs.Registers.{Registers, read}
 use Rattle.rv32_exec.specs.Exec.{Execution, exec}
@@ -29,7 +30,6 @@ use Rattle.machine_model.specs.Answers.{Change}
 use Rattle.machine_model.specs.Settling.{settled, is_free}
 use Rattle.machine_model.specs.Interrupts.{queues, posts_by, checked_post, leaves, frame_goes_on, frame_calls, frame_posts, frame_refused, frame_did, frame_runs, argument_words, ran}
 use Rattle.deferred_queue.specs.QueueRecord.{QueueRecord}
-use Rattle.machine_model.proofs.CountLaws.{choice}
 use Rattle.machine_core.specs.Posts.{post_at_once, post_later, joined}
 use Rattle.machine_core.specs.FrameCalls.{FrameStep, checked_to, called_by, post_call, refused_call, left_step, next_step, call_step, step_by, task_below}
 

@@ -1,35 +1,35 @@
 -- The handler of deferred posts is no task: it stands in no list, also in the middle of a whole step.
-use Rattle.std.specs.Prelude.{take, insert, length, replicate, if◌then◌else◌, ◌==◌, ◌-◌, ◌^◌}
+use Rattle.std.specs.Prelude.{take, insert, length, replicate, if◌then◌else◌, ◌==◌, ◌&&◌, ◌||◌, ◌-◌, ◌^◌}
 use Rattle.std.proofs.Common.{◌≡◌, ◌≢◌, ℕ, zero, suc, ◌+◌, List, [], ◌∷◌, ◌++◌, Bool, true, false, Option, Some, None, refl, sym, ap, ◌∙◌, subst, inl, inr, arith, ne_eqb, length-set}
 use Rattle.std.proofs.lemmas.Bool.{false≢true}
 use Rattle.std.proofs.lemmas.Bool.Decides.{eqb_tells, leb_tells}
 use Rattle.std.proofs.lemmas.List.{get_or_past}
 use Rattle.kern_base.specs.declared.services.Service.{Service}
-use Rattle.kern_base.specs.declared.services.Service.TheVariants.{SemPost, QPost, FlagPost, TaskSemPost, TaskQPost, SemPend, QPend, FlagPend, TaskSemPend, TaskQPend}
+use Rattle.kern_base.specs.declared.services.Service.TheVariants.{SemPost, QPost, FlagPost, TaskSemPost, TaskQPost, SemPend, QPend, FlagPend, TaskSemPend, TaskQPend, SchedLock, SchedUnlock, TimeGet, TimeDly, TimeDlyResume, SemPendAbort, QPendAbort, FlagPendAbort, TaskSemPendAbort, TaskQPendAbort, SemDel, QDel, FlagDel}
 use Rattle.kern_base.specs.Services.{is_post}
 use Rattle.kern_base.specs.declared.requests.Request.{Request}
 use Rattle.kern_base.specs.declared.errors.OsErr.{OsErr}
-use Rattle.kern_base.specs.declared.errors.OsErr.TheVariants.{SemOverflow, SchedLocked, CallUnknown}
+use Rattle.kern_base.specs.declared.errors.OsErr.TheVariants.{SemOverflow, SchedLocked, SchedNotLocked, LockOverflow, PendAbortSelf, CallUnknown}
 use Rattle.kern_base.specs.declared.outcomes.Waiting.{Waiting}
 use Rattle.kern_base.specs.declared.outcomes.Waiting.TheVariants.{No, Delay, Obj, TaskSem, TaskQ, Multi, Signal}
 use Rattle.kern_model.specs.Call.{Call}
-use Rattle.kern_model.specs.State.{Kernel, Content, Count, Messages, Bits, Held, Timed, count_of, list_at, object_at, prio_of, task_at, update_list, waits_for_nothing, with_content, with_task, without}
+use Rattle.kern_model.specs.State.{Kernel, Content, Count, Messages, Bits, Held, Timed, count_of, list_at, object_at, prio_of, task_at, update_list, waits_for_nothing, with_content, with_task, without, nesting_limit, timer_task}
 use Rattle.kern_model.specs.Micro.{Micro, Plain, JoinForward, JoinBack, LeaveForward, LeaveBack, Mark, Ready, Pend, Block, Lists, Halves, changed, changed_all, in_order, after, plain, wait_place, whole, lists_of}
 use Rattle.kern_model.specs.Effect.{Effect, Wait, refused, done, fine, chosen, waits_unless, blocks_on, waits_for, leave_blocks, ready_blocks, wake_blocks, wakes_blocks, wait_blocks, block_blocks}
 use Rattle.kern_model.specs.Checks.{argument, call_error, named_task}
 use Rattle.kern_model.specs.FlagBits.{bits_after, ready_bits}
 use Rattle.kern_model.specs.Flags.{flag_blocks, flag_blocks_all, flag_pend, flag_pend_on, flag_post}
-use Rattle.kern_model.specs.Options.{does_not_wait, flags_do_not_wait, hands_to_all, stores_first}
+use Rattle.kern_model.specs.Options.{aborts_all, deletes_always, does_not_wait, flags_do_not_wait, hands_to_all, stores_first}
 use Rattle.kern_model.specs.Queues.{q_pend, q_post, q_post_to, store_error, store_in, stored}
-use Rattle.kern_model.specs.TaskObjects.{task_q_pend_on, task_q_post_to, task_sem_pend_on, task_sem_post_to, task_store}
+use Rattle.kern_model.specs.TaskObjects.{task_abort, task_abort_of, waits_for_queue, waits_for_semaphore, task_q_pend_on, task_q_post_to, task_sem_pend_on, task_sem_post_to, task_store}
 use Rattle.kern_model.specs.Semaphores.{sem_post_to, sem_post, sem_pend}
+use Rattle.kern_model.specs.Tasks.{sched_lock, sched_unlock, unlocks}
+use Rattle.kern_model.specs.Time.{delay_of, delays, resumes_delayed, time_dly}
+use Rattle.kern_model.specs.Waiters.{aborts, delete, deletes, pend_abort}
 use Rattle.kern_model.specs.Served.{program_serves}
 use Rattle.kern_model.specs.Services.{effect, after_checks, perform, blocks, half}
 use Rattle.kern_model.specs.Valid.{IsLinked}
-use Rattle.kern_model.proofs.Lists.Counts.{count-insert, count-without_other, count-without_same}
-use Rattle.kern_model.proofs.Lists.Members.{list-inside, list-other}
-use Rattle.kern_model.proofs.Linked.Contents.{application-pend, inside-ready}
-use Rattle.machine_model.proofs.CountLaws.{choice}
+use Rattle.kern_model.proofs.Lemmas.{count-insert, count-without_other, count-without_same, list-inside, list-other, application-pend, inside-ready, choice}
 use Rattle.machine_core.specs.LookView.{AreWithoutHandler, HasNoHandler}
 
 -- One list of many.
@@ -282,6 +282,72 @@ apart-task_q_pend_on : (ms : List (ℕ × ℕ)) (r : Request) (x : ℕ) (k : Ker
 apart-task_q_pend_on [] r x k other = apart-tail k (does_not_wait (argument r 1)) (blocks_on k x (waits_for TaskQ [] (argument r 0))) (blocks-block k x [] other)
 apart-task_q_pend_on (m ∷ ms) r x k other = tt
 
+-- the scheduler
+
+apart-unlocks : (n : ℕ) (k : Kernel) → Apart (unlocks n k)
+apart-unlocks zero k = tt
+apart-unlocks (suc n) k = tt
+
+apart-unlock : (x : ℕ) (k : Kernel) → Apart (sched_unlock x k)
+apart-unlock x k = choice Apart ((k.lock == 0) || ((k.lock == 1) && (x == timer_task))) (refused k SchedNotLocked) (unlocks (k.lock - 1) k) tt (apart-unlocks (k.lock - 1) k)
+
+apart-lock : (k : Kernel) → Apart (sched_lock k)
+apart-lock k = choice Apart (k.lock == nesting_limit) (refused k LockOverflow) (done (record k { lock = k.lock + 1 }) (fine (k.lock + 1))) tt tt
+
+apart-delays : (n x : ℕ) (k : Kernel) → x ≢ 63 → Apart (delays n x k)
+apart-delays zero x k other = tt
+apart-delays (suc n) x k other = blocks-block k x [] other
+
+apart-delay : (r : Request) (x : ℕ) (k : Kernel) → x ≢ 63 → Apart (time_dly r x k)
+apart-delay r x k other = choice Apart (k.lock == 0) (delays (delay_of r k.ticks) x k) (refused k SchedLocked) (apart-delays (delay_of r k.ticks) x k other) tt
+
+apart-resume : (w : Waiting) (y h : ℕ) (k : Kernel) → w ≡ (task_at k y).waiting → IsLinked k → Apart (resumes_delayed w y h k)
+apart-resume Delay y h k e v = blocks-wakes k h (y ∷ []) (one-none y (waits-other k y v (ap waits_for_nothing (sym e))))
+apart-resume _ y h k e v = tt
+
+-- aborts
+
+apart-aborts : (xs : List ℕ) (h : ℕ) (k : Kernel) → count_of 63 xs ≡ 0 → Apart (aborts xs h k)
+apart-aborts [] h k none = tt
+apart-aborts (x ∷ xs) h k none = blocks-wakes k h (x ∷ xs) none
+
+apart-abort : (r : Request) (h : ℕ) (k : Kernel) → IsLinked k → Apart (pend_abort r h k)
+apart-abort r h k v =
+    let all = aborts_all (argument r 1) in
+    let xs = list_at k.pend (argument r 0) in
+    apart-aborts (chosen all xs) h k (chosen-none all xs (application-pend k v (argument r 0) 63 (omega arith)))
+
+apart-task_abort_of : (b : Bool) (y h : ℕ) (k : Kernel) → (b ≡ true → y ≢ 63) → Apart (task_abort_of b y h k)
+apart-task_abort_of true y h k other = blocks-wakes k h (y ∷ []) (one-none y (other refl))
+apart-task_abort_of false y h k other = tt
+
+apart-task_abort : (waits : Waiting → Bool) → ((w : Waiting) → waits w ≡ true → waits_for_nothing w ≡ false) → (r : Request) (x h : ℕ) (k : Kernel) → IsLinked k → Apart (task_abort waits r x h k)
+apart-task_abort waits some r x h k v =
+    let y = named_task r x in
+    let e = task_abort_of (waits (task_at k y).waiting) y h k in
+    choice Apart (y == x) (refused k PendAbortSelf) e tt
+    (apart-task_abort_of (waits (task_at k y).waiting) y h k (λ w. waits-other k y v (some (task_at k y).waiting w)))
+
+-- deletions
+
+apart-deletes : (all : Bool) (xs : List ℕ) (o h : ℕ) (k : Kernel) → count_of 63 xs ≡ 0 → Apart (deletes all xs o h k)
+apart-deletes false (x ∷ xs) o h k none = tt
+apart-deletes false [] o h k none = tt
+apart-deletes true xs o h k none = blocks-wakes k h xs none
+
+apart-delete : (r : Request) (h : ℕ) (k : Kernel) → IsLinked k → Apart (delete r h k)
+apart-delete r h k v =
+    apart-deletes (deletes_always (argument r 1)) (list_at k.pend (argument r 0)) (argument r 0) h k (application-pend k v (argument r 0) 63 (omega arith))
+
+-- who waits for its own semaphore or queue waits
+semaphore-waits : (w : Waiting) → waits_for_semaphore w ≡ true → waits_for_nothing w ≡ false
+semaphore-waits TaskSem h = refl
+semaphore-waits _ h = absurd (false≢true h)
+
+queue-waits : (w : Waiting) → waits_for_queue w ≡ true → waits_for_nothing w ≡ false
+queue-waits TaskQ h = refl
+queue-waits _ h = absurd (false≢true h)
+
 apart-perform : (s : Service) (call : Call) (k : Kernel) → IsLinked k → program_serves s ≡ true → (is_post s ≡ false → call.caller ≢ 63) → Apart (perform s call k)
 apart-perform SemPost call k v e who = apart-sem_post (object_at k (argument call.request 0)).content call.request call.compared k v
 apart-perform QPost call k v e who = apart-q_post (object_at k (argument call.request 0)).content call.request call.compared k v
@@ -293,6 +359,19 @@ apart-perform QPend call k v e who = apart-q_pend (object_at k (argument call.re
 apart-perform FlagPend call k v e who = apart-flag_pend (object_at k (argument call.request 0)).content call.request call.caller k (who refl)
 apart-perform TaskSemPend call k v e who = apart-task_sem_pend_on (task_at k call.caller).count call.request call.caller k (who refl)
 apart-perform TaskQPend call k v e who = apart-task_q_pend_on (task_at k call.caller).messages call.request call.caller k (who refl)
+apart-perform SchedLock call k v e who = apart-lock k
+apart-perform SchedUnlock call k v e who = apart-unlock call.caller k
+apart-perform TimeGet call k v e who = tt
+apart-perform TimeDly call k v e who = apart-delay call.request call.caller k (who refl)
+apart-perform SemPendAbort call k v e who = apart-abort call.request call.compared k v
+apart-perform QPendAbort call k v e who = apart-abort call.request call.compared k v
+apart-perform FlagPendAbort call k v e who = apart-abort call.request call.compared k v
+apart-perform TaskSemPendAbort call k v e who = apart-task_abort waits_for_semaphore semaphore-waits call.request call.caller call.compared k v
+apart-perform TaskQPendAbort call k v e who = apart-task_abort waits_for_queue queue-waits call.request call.caller call.compared k v
+apart-perform SemDel call k v e who = apart-delete call.request call.compared k v
+apart-perform QDel call k v e who = apart-delete call.request call.compared k v
+apart-perform FlagDel call k v e who = apart-delete call.request call.compared k v
+apart-perform TimeDlyResume call k v e who = let y = named_task call.request call.caller in apart-resume (task_at k y).waiting y call.compared k refl v
 apart-perform _ call k v e who = absurd (false≢true e)
 
 apart-checked : (o : Option OsErr) (call : Call) (k : Kernel) → IsLinked k → program_serves call.request.service ≡ true → (is_post call.request.service ≡ false → call.caller ≢ 63) → Apart (after_checks o call k)

@@ -8,9 +8,7 @@ use Rattle.machine_model.specs.Bound.{events_left}
 use Rattle.machine_model.specs.Rules.{rule, raw}
 use Rattle.machine_model.proofs.CountLaws.{Counts, counts-done}
 use Rattle.machine_laws.specs.Valid.{IsValidMachine}
-use Rattle.machine_laws.proofs.RuleFacts.{applies}
-use Rattle.machine_laws.proofs.NextValid.{valid-done}
-use Rattle.machine_laws.proofs.FallLaws.{events_left-next}
+use Rattle.machine_laws.proofs.Lemmas.{applies, valid-done, events_left-next}
 use Rattle.machine_core.specs.MethodMachine.{MethodMachine, next_machine}
 use Rattle.machine_core.specs.MachineView.{machine_of, method_machine_of, IsKept, AreParts}
 use Rattle.machine_core.specs.Valid.{most_task_steps, change, changed}

@@ -12,6 +12,7 @@ use Rattle.kern_base.specs.Services.{is_post, service_of, interrupt_error}
 use Rattle.kern_base.specs.Numbers.{leave}
 use Rattle.kern_model.specs.State.{Kernel, task_at, idle_task}
 use Rattle.kern_model.specs.Services.{cost}
+use Rattle.kern_model.proofs.Lemmas.{choice}
 use Rattle.rv32_exec.specs.Registers.{Registers, read}
 use Rattle.rv32_exec.specs.Exec.{Execution, exec}
 use Rattle.rv32_exec.specs.declared.Stepped.{Stepped}
@@ -30,7 +31,6 @@ use Rattle.machine_model.specs.Interrupts.{without_top, leaves, frame_goes_on, f
 use Rattle.machine_model.specs.Steps.{call_ends, unit_ends, ends, advances}
 use Rattle.machine_model.specs.Acts.{acts, instructs, idles, starts_unit, works_in_units}
 use Rattle.machine_model.specs.Rules.{Rule, Begins, Looks, Enters, FrameLimit, FrameRuns, MicroStep, TakeBegins, TaskActs, done, raw}
-use Rattle.machine_model.proofs.CountLaws.{choice}
 use Rattle.machine_laws.specs.RuleTable.{Applies}
 use Rattle.machine_core.specs.LookView.{IsToCome}
 

@@ -1,7 +1,5 @@
 -- What the machine's fields come to, act by act.
 use Rattle.std.specs.Prelude.{◌==◌, ◌&&◌, is_none, not, length, slice_index_or, slice_set}
-use Rattle.kernel_calls.specs.declared.stepping.Progress.{Progress}
-use Rattle.kernel_calls.specs.declared.stepping.Progress.TheVariants.{Done, More}
 use Rattle.std.proofs.lemmas.Bool.Decides.{leb_tells}
 use Rattle.std.proofs.Common.{◌≡◌, ◌⊎◌, inl, inr, ◌<◌, ℕ, ◌+◌, Bool, true, false, List, [], ◌∷◌, Option, Some, None, refl, sym, ap, ◌∙◌, subst, arith, eq-eqb, ne_eqb}
 use Rattle.kern_base.specs.declared.numbers.TaskId.{TaskId}
@@ -46,7 +44,7 @@ use Rattle.machine_model.specs.Steps.{advances, ends, call_ends, take_ends, some
 use Rattle.machine_model.specs.Acts.{acts, calls, called, instructs, request_of, traps}
 use Rattle.machine_model.specs.Rules.{Rule, Begins, MicroStep, TakeBegins, TaskActs, rule, raw, done, rule_in_hand, rule_of_post, may_take}
 use Rattle.machine_laws.specs.Valid.{IsInHand, IsBegun as InHandBegun}
-use Rattle.machine_core.specs.AnswerView.{ended_kernel, ended_line, finished_by, finished_kernel, HasNoTable}
+use Rattle.machine_core.specs.AnswerView.{ended_kernel, ended_line, request_in, finished_by, finished_kernel, HasNoTable}
 use Rattle.machine_core.specs.MethodMachine.{MethodMachine}
 use Rattle.machine_core.specs.MachineView.{machine_of, method_machine_of, queued_in, work_of, step_of, hand_of, IsFit, IsFitHand, IsKept}
 use Rattle.machine_core.specs.Valid.{most_task_steps, change, changed}
@@ -145,20 +143,20 @@ fit_in a h k e = rw e at k.parts.work
 step-left : (i n : ℕ) → i < n → (i + 1 < n) ⊎ (i + 1 ≡ n)
 step-left i n h = elim (leb_tells n (i + 1)) [ inl d ↦ inr (let e = d.1 in omega arith) | inr d ↦ inl d.1 ]
 
-module _ (old new : KernelRecord) (h : WorkRecord) (r : Progress) (held : old.hand ≡ Some h) (open_yet : IsOpen old.hand old.state)
-    (more : (w : WorkRecord) → old.hand ≡ Some w → w.done + 1 < cost (effect_of w old.state) old.state → (r ≡ More) × (new ≡ record old { hand = Some (stepped w) }))
-    (done : (w : WorkRecord) → old.hand ≡ Some w → w.done + 1 ≡ cost (effect_of w old.state) old.state → (r ≡ Done (effect_of w old.state).outcome) × (new ≡ ended old w)) where
+module _ (old new : KernelRecord) (h : WorkRecord) (last : Bool) (o : Outcome) (held : old.hand ≡ Some h) (open_yet : IsOpen old.hand old.state)
+    (more : (w : WorkRecord) → old.hand ≡ Some w → w.done + 1 < cost (effect_of w old.state) old.state → (last ≡ false) × (new ≡ record old { hand = Some (stepped w) }))
+    (done : (w : WorkRecord) → old.hand ≡ Some w → w.done + 1 ≡ cost (effect_of w old.state) old.state → (last ≡ true) × (o ≡ (effect_of w old.state).outcome) × (new ≡ ended old w)) where
   below : h.done < cost (effect_of h old.state) old.state
   below = subst (λ (o : Option WorkRecord). IsOpen o old.state) held open_yet
 
-  pub not-last : r ≡ More → h.done + 1 < cost (effect_of h old.state) old.state
+  pub not-last : last ≡ false → h.done + 1 < cost (effect_of h old.state) old.state
   not-last e = elim (step-left h.done (cost (effect_of h old.state) old.state) below) [ inl i ↦ i | inr i ↦ (let d = (done h held i).0 in cc) ]
 
-  pub is-last : (o : Outcome) → r ≡ Done o → h.done + 1 ≡ cost (effect_of h old.state) old.state
-  is-last o e = elim (step-left h.done (cost (effect_of h old.state) old.state) below) [ inl i ↦ (let d = (more h held i).0 in cc) | inr i ↦ i ]
+  pub is-last : last ≡ true → h.done + 1 ≡ cost (effect_of h old.state) old.state
+  is-last e = elim (step-left h.done (cost (effect_of h old.state) old.state) below) [ inl i ↦ (let d = (more h held i).0 in cc) | inr i ↦ i ]
 
-  pub outcome-is : (o : Outcome) → r ≡ Done o → o ≡ (effect_of h old.state).outcome
-  outcome-is o e = let d = (done h held (is-last o e)).0 in cc
+  pub outcome-is : last ≡ true → o ≡ (effect_of h old.state).outcome
+  outcome-is e = (done h held (is-last e)).1
 
 -- what is in hand
 pub take-held : (o : Option WorkRecord) (q : Queued) (i : ℕ) → hand_of o ≡ Some (record { work = TakeOf q; done = i }) → (h : WorkRecord) × (o ≡ Some h) × ((h.caller == 63) ≡ true) × (queued_in h ≡ q)
@@ -408,9 +406,11 @@ module _ (a : Parts) (x : ℕ) (p : x < 60) where
   call-acts : e.did ≡ Call → acts program_serves x None (machine_of a) ≡ calls program_serves x e (machine_of a)
   call-acts did = acts-application program_serves x (machine_of a) p ∙ ap (λ (d : Stepped). instructs program_serves d x e (machine_of a)) did
 
-  pub called-registers : (k : KernelRecord) (regs : Registers) → length a.kernel.registers ≡ 64 → k ≡ record a.kernel { registers = slice_set a.kernel.registers x e.registers } → regs ≡ slice_index_or k.registers x no_registers → regs ≡ e.registers
-  called-registers k regs long ran here =
-      here ∙ ap (λ (j : KernelRecord). slice_index_or j.registers x no_registers) ran ∙ get_or-set_same a.kernel.registers x e.registers no_registers (omega (arith, long, p))
+  pub called-request : (k : KernelRecord) → length a.kernel.registers ≡ 64 → k ≡ record a.kernel { registers = slice_set a.kernel.registers x e.registers } → request_in k x e.memory ≡ request_of program_serves e.registers e.memory
+  called-request k long ran =
+      let regs : slice_index_or k.registers x no_registers ≡ e.registers =
+      ap (λ (j : KernelRecord). slice_index_or j.registers x no_registers) ran ∙ get_or-set_same a.kernel.registers x e.registers no_registers (omega (arith, long, p)) in
+      ap (λ (r : Registers). request_of program_serves r e.memory) regs
 
   pub calls-line : (what : What) (r : Request) → e.did ≡ Call → what ≡ called x r → r ≡ request_of program_serves e.registers e.memory → what ≡ (acts program_serves x None (machine_of a)).what
   calls-line what r did told same = told ∙ rw same refl ∙ ap (λ (c : Change). c.what) (sym (call-acts did))

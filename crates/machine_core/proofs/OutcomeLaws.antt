@@ -1,28 +1,31 @@
 -- No service that is served answers with a table.
-use Rattle.std.specs.Prelude.{if◌then◌else◌, ◌==◌, ◌-◌, ◌+◌, ◌^◌}
+use Rattle.std.specs.Prelude.{if◌then◌else◌, ◌==◌, ◌&&◌, ◌||◌, ◌-◌, ◌+◌, ◌^◌}
 use Rattle.std.proofs.Common.{◌≡◌, ℕ, zero, suc, List, [], ◌∷◌, length, refl, Bool, true, false, Option, Some, None}
 use Rattle.std.proofs.lemmas.Bool.{false≢true}
 use Rattle.kern_base.specs.declared.services.Service.{Service}
-use Rattle.kern_base.specs.declared.services.Service.TheVariants.{SemPost, QPost, FlagPost, TaskSemPost, TaskQPost, SemPend, QPend, FlagPend, TaskSemPend, TaskQPend}
+use Rattle.kern_base.specs.declared.services.Service.TheVariants.{SemPost, QPost, FlagPost, TaskSemPost, TaskQPost, SemPend, QPend, FlagPend, TaskSemPend, TaskQPend, SchedLock, SchedUnlock, TimeGet, TimeDly, TimeDlyResume, SemPendAbort, QPendAbort, FlagPendAbort, TaskSemPendAbort, TaskQPendAbort, SemDel, QDel, FlagDel}
 use Rattle.kern_base.specs.declared.requests.Request.{Request}
 use Rattle.kern_base.specs.declared.errors.OsErr.{OsErr}
-use Rattle.kern_base.specs.declared.errors.OsErr.TheVariants.{SemOverflow, SchedLocked, CallUnknown}
+use Rattle.kern_base.specs.declared.errors.OsErr.TheVariants.{SemOverflow, SchedLocked, SchedNotLocked, LockOverflow, PendAbortSelf, CallUnknown}
 use Rattle.kern_base.specs.declared.outcomes.Waiting.{Waiting}
 use Rattle.kern_base.specs.declared.outcomes.Waiting.TheVariants.{No, Delay, Obj, TaskSem, TaskQ, Multi, Signal}
 use Rattle.kern_model.specs.Call.{Call}
-use Rattle.kern_model.specs.State.{Kernel, Content, Count, Messages, Bits, Held, Timed, list_at, object_at, task_at, with_content, with_task}
-use Rattle.kern_model.specs.Effect.{Effect, Wait, refused, done, fine, waits_unless, blocks_on, waits_for}
+use Rattle.kern_model.specs.State.{Kernel, Content, Count, Messages, Bits, Held, Timed, list_at, object_at, task_at, with_content, with_task, nesting_limit, timer_task}
+use Rattle.kern_model.specs.Effect.{Effect, Wait, chosen, refused, done, fine, waits_unless, blocks_on, waits_for}
 use Rattle.kern_model.specs.Checks.{argument, call_error, named_task}
 use Rattle.kern_model.specs.FlagBits.{ready_bits}
 use Rattle.kern_model.specs.Flags.{flag_pend, flag_pend_on, flag_post}
-use Rattle.kern_model.specs.Options.{does_not_wait, flags_do_not_wait, stores_first}
+use Rattle.kern_model.specs.Options.{aborts_all, deletes_always, does_not_wait, flags_do_not_wait, stores_first}
 use Rattle.kern_model.specs.Queues.{q_pend, q_post, q_post_to, store_error, store_in, stored}
-use Rattle.kern_model.specs.TaskObjects.{task_q_pend_on, task_q_post_to, task_sem_pend_on, task_sem_post_to, task_store}
+use Rattle.kern_model.specs.TaskObjects.{task_abort, task_abort_of, waits_for_queue, waits_for_semaphore, task_q_pend_on, task_q_post_to, task_sem_pend_on, task_sem_post_to, task_store}
 use Rattle.kern_model.specs.Semaphores.{sem_post_to, sem_post, sem_pend}
+use Rattle.kern_model.specs.Tasks.{sched_lock, sched_unlock, unlocks}
+use Rattle.kern_model.specs.Time.{delay_of, delays, resumes_delayed, time_dly}
+use Rattle.kern_model.specs.Waiters.{aborts, delete, deletes, pend_abort}
 use Rattle.kern_model.specs.Served.{program_serves}
 use Rattle.kern_model.specs.Services.{effect, after_checks, perform}
+use Rattle.kern_model.proofs.Lemmas.{choice}
 use Rattle.machine_core.specs.AnswerView.{HasNoTable}
-use Rattle.machine_model.proofs.CountLaws.{choice}
 
 abbrev Plain : Effect → Type 0
 Plain e = HasNoTable e.outcome
@@ -123,6 +126,58 @@ plain-task_q_pend_on : (ms : List (ℕ × ℕ)) (r : Request) (x : ℕ) (k : Ker
 plain-task_q_pend_on [] r x k = plain-tail k (does_not_wait (argument r 1)) (blocks_on k x (waits_for TaskQ [] (argument r 0))) tt
 plain-task_q_pend_on (m ∷ ms) r x k = refl
 
+-- the scheduler
+
+plain-lock : (k : Kernel) → Plain (sched_lock k)
+plain-lock k = choice Plain (k.lock == nesting_limit) (refused k LockOverflow) (done (record k { lock = k.lock + 1 }) (fine (k.lock + 1))) refl refl
+
+plain-unlocks : (n : ℕ) (k : Kernel) → Plain (unlocks n k)
+plain-unlocks zero k = refl
+plain-unlocks (suc n) k = refl
+
+plain-unlock : (x : ℕ) (k : Kernel) → Plain (sched_unlock x k)
+plain-unlock x k = choice Plain ((k.lock == 0) || ((k.lock == 1) && (x == timer_task))) (refused k SchedNotLocked) (unlocks (k.lock - 1) k) refl (plain-unlocks (k.lock - 1) k)
+
+plain-delays : (n x : ℕ) (k : Kernel) → Plain (delays n x k)
+plain-delays zero x k = refl
+plain-delays (suc n) x k = tt
+
+plain-delay : (r : Request) (x : ℕ) (k : Kernel) → Plain (time_dly r x k)
+plain-delay r x k = choice Plain (k.lock == 0) (delays (delay_of r k.ticks) x k) (refused k SchedLocked) (plain-delays (delay_of r k.ticks) x k) refl
+
+plain-resume : (w : Waiting) (y h : ℕ) (k : Kernel) → Plain (resumes_delayed w y h k)
+plain-resume Delay y h k = refl
+plain-resume _ y h k = refl
+
+-- aborts
+
+plain-aborts : (xs : List ℕ) (h : ℕ) (k : Kernel) → Plain (aborts xs h k)
+plain-aborts [] h k = refl
+plain-aborts (x ∷ xs) h k = refl
+
+plain-abort : (r : Request) (h : ℕ) (k : Kernel) → Plain (pend_abort r h k)
+plain-abort r h k = plain-aborts (chosen (aborts_all (argument r 1)) (list_at k.pend (argument r 0))) h k
+
+plain-task_abort_of : (b : Bool) (y h : ℕ) (k : Kernel) → Plain (task_abort_of b y h k)
+plain-task_abort_of true y h k = refl
+plain-task_abort_of false y h k = refl
+
+plain-task_abort : (waits : Waiting → Bool) (r : Request) (x h : ℕ) (k : Kernel) → Plain (task_abort waits r x h k)
+plain-task_abort waits r x h k =
+    let y = named_task r x in
+    let e = task_abort_of (waits (task_at k y).waiting) y h k in
+    choice Plain (y == x) (refused k PendAbortSelf) e refl (plain-task_abort_of (waits (task_at k y).waiting) y h k)
+
+-- deletions
+
+plain-deletes : (all : Bool) (xs : List ℕ) (o h : ℕ) (k : Kernel) → Plain (deletes all xs o h k)
+plain-deletes false (x ∷ xs) o h k = refl
+plain-deletes false [] o h k = refl
+plain-deletes true xs o h k = refl
+
+plain-delete : (r : Request) (h : ℕ) (k : Kernel) → Plain (delete r h k)
+plain-delete r h k = plain-deletes (deletes_always (argument r 1)) (list_at k.pend (argument r 0)) (argument r 0) h k
+
 -- each of them
 
 plain-perform : (s : Service) (call : Call) (k : Kernel) → program_serves s ≡ true → Plain (perform s call k)
@@ -136,6 +191,19 @@ plain-perform QPend call k e = plain-q_pend (object_at k (argument call.request 
 plain-perform FlagPend call k e = plain-flag_pend (object_at k (argument call.request 0)).content call.request call.caller k
 plain-perform TaskSemPend call k e = plain-task_sem_pend_on (task_at k call.caller).count call.request call.caller k
 plain-perform TaskQPend call k e = plain-task_q_pend_on (task_at k call.caller).messages call.request call.caller k
+plain-perform SchedLock call k e = plain-lock k
+plain-perform SchedUnlock call k e = plain-unlock call.caller k
+plain-perform TimeGet call k e = refl
+plain-perform TimeDly call k e = plain-delay call.request call.caller k
+plain-perform SemPendAbort call k e = plain-abort call.request call.compared k
+plain-perform QPendAbort call k e = plain-abort call.request call.compared k
+plain-perform FlagPendAbort call k e = plain-abort call.request call.compared k
+plain-perform TaskSemPendAbort call k e = plain-task_abort waits_for_semaphore call.request call.caller call.compared k
+plain-perform TaskQPendAbort call k e = plain-task_abort waits_for_queue call.request call.caller call.compared k
+plain-perform SemDel call k e = plain-delete call.request call.compared k
+plain-perform QDel call k e = plain-delete call.request call.compared k
+plain-perform FlagDel call k e = plain-delete call.request call.compared k
+plain-perform TimeDlyResume call k e = let y = named_task call.request call.caller in plain-resume (task_at k y).waiting y call.compared k
 plain-perform _ call k e = absurd (false≢true e)
 
 plain-checked : (o : Option OsErr) (call : Call) (k : Kernel) → program_serves call.request.service ≡ true → Plain (after_checks o call k)

@@ -12,6 +12,7 @@ use Rattle.kern_base.specs.declared.outcomes.Outcome.TheVariants.{Answered, Wait
 use Rattle.kern_base.specs.Services.{is_post, service_of, interrupt_error}
 use Rattle.kern_model.specs.State.{Kernel, task_at, idle_task}
 use Rattle.kern_model.specs.Services.{cost}
+use Rattle.kern_model.proofs.Lemmas.{choice}
 use Rattle.rv32_exec.specs.Registers.{Registers, read}
 use Rattle.rv32_exec.specs.Exec.{Execution, exec}
 use Rattle.rv32_exec.specs.declared.Stepped.{Stepped}
@@ -30,9 +31,8 @@ use Rattle.machine_model.specs.Acts.{acts, instructs, idles, starts_unit, works_
 use Rattle.machine_model.specs.Looks.{looks, look_at}
 use Rattle.machine_model.specs.Rules.{Rule, Begins, Looks, Enters, FrameLimit, FrameRuns, MicroStep, TakeBegins, TaskActs, rule, done}
 use Rattle.machine_model.specs.Text.{IsPrintable}
-use Rattle.machine_model.proofs.CountLaws.{choice}
 use Rattle.machine_laws.specs.RuleTable.{ALookIsHere, Applies}
-use Rattle.machine_laws.proofs.RuleFacts.{applies}
+use Rattle.machine_laws.proofs.Lemmas.{applies}
 
 abbrev Printable : Change → Type 0
 Printable c = IsPrintable c.what

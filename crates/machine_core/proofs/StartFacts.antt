@@ -31,7 +31,7 @@ use Rattle.machine_model.specs.Bound.{events_left, interrupt_events}
 use Rattle.kernel_calls.specs.KernelRecord.{start_of}
 use Rattle.rv32_exec.specs.Memory.{filled}
 use Rattle.machine_laws.specs.Valid.{IsValidMachine}
-use Rattle.machine_laws.proofs.NextValid.{valid-start_machine}
+use Rattle.machine_laws.proofs.Lemmas.{valid-start_machine}
 use Rattle.machine_core.specs.MachineView.{Parts}
 use Rattle.machine_core.specs.MachineView.{machine_of, hand_of, IsKept, HasVectors}
 use Rattle.machine_core.specs.Valid.{IsStill, most_task_steps, most_events}
@@ -136,7 +136,7 @@ kept-loaded image list a h words l e kinds size =
     let t : a.t ≡ 0 = ap (λ (m : Machine). m.t) e in
     let looks : a.looks ≡ list.looks = ap (λ (m : Machine). m.looks) e in
     let none : hand_of a.kernel.hand ≡ None = ap (λ (m : Machine). m.in_hand) e in
-    let still : IsStill (start image list).kernel = record { tick_signals = refl; timer_signals = refl; processing = refl; lock = refl } in
+    let still : IsStill (start image list).kernel = record { tick_signals = refl; timer_signals = refl; processing = refl } in
     let first = pick-below (start_state image) (valid-start_machine program_serves Direct image list h words l).kernel in
     let current : a.current.0 < 64 = subst (λ (m : Machine). m.current < 64) (sym e) first in
     let few : events_left most_task_steps (machine_of a) ≤ most_events = subst (λ (m : Machine). events_left most_task_steps m ≤ most_events) (sym e) (few-start image list h l) in

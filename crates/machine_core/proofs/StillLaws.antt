@@ -1,65 +1,66 @@
--- What the services leave as it was: the signals of the internal tasks, and the lock.
+-- What the services leave as it was: the signals of the internal tasks.
 use Rattle.std.proofs.Common.{◌≡◌, ℕ, zero, suc, List, [], ◌∷◌, refl, Bool, true, false, Option, Some, None, ap, sym, ◌∙◌, length}
 use Rattle.std.proofs.lemmas.Bool.{false≢true}
 use Rattle.std.proofs.Math.Seq.{map-set_same}
-use Rattle.std.specs.Prelude.{map, slice_index_or, if◌then◌else◌, ◌==◌, ◌-◌, ◌+◌, ◌^◌}
+use Rattle.std.specs.Prelude.{map, slice_index_or, if◌then◌else◌, ◌==◌, ◌&&◌, ◌||◌, ◌-◌, ◌+◌, ◌^◌}
 use Rattle.kern_base.specs.declared.services.Service.{Service}
-use Rattle.kern_base.specs.declared.services.Service.TheVariants.{SemPost, QPost, FlagPost, TaskSemPost, TaskQPost, SemPend, QPend, FlagPend, TaskSemPend, TaskQPend}
+use Rattle.kern_base.specs.declared.services.Service.TheVariants.{SemPost, QPost, FlagPost, TaskSemPost, TaskQPost, SemPend, QPend, FlagPend, TaskSemPend, TaskQPend, SchedLock, SchedUnlock, TimeGet, TimeDly, TimeDlyResume, SemPendAbort, QPendAbort, FlagPendAbort, TaskSemPendAbort, TaskQPendAbort, SemDel, QDel, FlagDel}
 use Rattle.kern_base.specs.declared.requests.Request.{Request}
 use Rattle.kern_base.specs.declared.errors.OsErr.{OsErr}
-use Rattle.kern_base.specs.declared.errors.OsErr.TheVariants.{NoError, SemOverflow, SchedLocked, CallUnknown}
+use Rattle.kern_base.specs.declared.errors.OsErr.TheVariants.{NoError, SemOverflow, SchedLocked, SchedNotLocked, LockOverflow, ObjectDeleted, PendAbort, PendAbortSelf, CallUnknown}
 use Rattle.kern_base.specs.declared.outcomes.Waiting.{Waiting}
 use Rattle.kern_base.specs.declared.outcomes.Waiting.TheVariants.{No, Delay, Obj, TaskSem, TaskQ, Multi, Signal}
 use Rattle.kern_base.specs.declared.outcomes.Finished.{Finished}
 use Rattle.kern_model.specs.Call.{Call}
 use Rattle.kern_base.specs.Tables.{KindTable}
-use Rattle.kern_model.specs.State.{Kernel, Task, Object, no_object, kind_of, kinds_of, Content, Count, Messages, Bits, Held, Timed, list_at, task_at, object_at, with_content, with_task}
-use Rattle.kern_model.specs.Effect.{Effect, Wait, refused, done, fine, message, wakes, wakes_all, posted_result, result_of, chosen, waits_unless, blocks_on, waits_for}
+use Rattle.kern_model.specs.State.{Kernel, Task, Object, no_object, kind_of, kinds_of, Content, Count, Messages, Bits, Held, Timed, list_at, task_at, object_at, with_content, with_task, nesting_limit, timer_task}
+use Rattle.kern_model.specs.Effect.{Effect, Wait, answer, refused, done, fine, message, wakes, wakes_all, posted_result, result_of, chosen, waits_unless, blocks_on, waits_for}
 use Rattle.kern_model.specs.Checks.{argument, call_error, named_task}
-use Rattle.kern_laws.proofs.ObjectKinds.Calls.{kinds-effect}
+use Rattle.kern_laws.proofs.Lemmas.{kinds-effect}
 use Rattle.kern_model.specs.FlagBits.{bits_after, ready_bits}
 use Rattle.kern_model.specs.Flags.{flag_pend, flag_pend_on, flag_post, flag_wakes, flag_wakes_all}
-use Rattle.kern_model.specs.Options.{does_not_wait, flags_do_not_wait, hands_to_all, stores_first}
+use Rattle.kern_model.specs.Options.{aborts_all, deletes_always, does_not_wait, flags_do_not_wait, hands_to_all, stores_first}
 use Rattle.kern_model.specs.Queues.{q_pend, q_post, q_post_to, store_error, store_in, stored}
-use Rattle.kern_model.specs.TaskObjects.{task_q_pend_on, task_q_post_to, task_sem_pend_on, task_sem_post_to, task_store}
+use Rattle.kern_model.specs.TaskObjects.{task_abort, task_abort_of, waits_for_queue, waits_for_semaphore, task_q_pend_on, task_q_post_to, task_sem_pend_on, task_sem_post_to, task_store}
 use Rattle.kern_model.specs.Semaphores.{sem_post_to, sem_post, sem_pend}
+use Rattle.kern_model.specs.Tasks.{sched_lock, sched_unlock, unlocks}
+use Rattle.kern_model.specs.Time.{delay_of, delays, resumes_delayed, time_dly}
+use Rattle.kern_model.specs.Waiters.{aborts, delete, deletes, pend_abort, without_object}
 use Rattle.kern_model.specs.Served.{program_serves}
 use Rattle.kern_model.specs.Services.{effect, after_checks, perform}
 use Rattle.kern_model.specs.Finish.{finished, finished_with, consumed_content, consumed_object, consumed_in, flags_consumed}
 use Rattle.kern_model.specs.Stop.{stopped}
-use Rattle.machine_model.proofs.CountLaws.{choice}
+use Rattle.kern_model.proofs.Lemmas.{choice}
 use Rattle.machine_core.specs.Valid.{IsStill}
 
--- the signals, the work of the timer task and the lock are the same
+-- the signals and the work of the timer task are the same
 record SameBehind (k j : Kernel) : Type 0 where
   tick_signals : j.tick_signals ≡ k.tick_signals
   timer_signals : j.timer_signals ≡ k.timer_signals
   processing : j.processing ≡ k.processing
   in_callback : j.in_callback ≡ k.in_callback
-  lock : j.lock ≡ k.lock
 
 abbrev Keeps : Kernel → Effect → Type 0
 Keeps k e = SameBehind k e.kernel
 
 same : (k : Kernel) → SameBehind k k
-same k = record { tick_signals = refl; timer_signals = refl; processing = refl; in_callback = refl; lock = refl }
+same k = record { tick_signals = refl; timer_signals = refl; processing = refl; in_callback = refl }
 
--- a change of the tasks, objects, lists, matches and free messages
-keeps-fields : (k j : Kernel) → record k { tasks = j.tasks; objects = j.objects; ready = j.ready; pend = j.pend; matches = j.matches; free = j.free } ≡ j → SameBehind k j
+-- a change of the tasks, objects, lists, matches, free messages and the lock
+keeps-fields : (k j : Kernel) → record k { tasks = j.tasks; objects = j.objects; ready = j.ready; pend = j.pend; matches = j.matches; free = j.free; lock = j.lock } ≡ j → SameBehind k j
 keeps-fields k j e =
     record {
       tick_signals = ap (λ (i : Kernel). i.tick_signals) (sym e);
       timer_signals = ap (λ (i : Kernel). i.timer_signals) (sym e);
       processing = ap (λ (i : Kernel). i.processing) (sym e);
       in_callback = ap (λ (i : Kernel). i.in_callback) (sym e);
-      lock = ap (λ (i : Kernel). i.lock) (sym e);
     }
 
 keeps-wakes_all : (f : Task → Finished) (h : ℕ) (xs : List ℕ) (k j : Kernel) → SameBehind k j → SameBehind k (wakes_all f h xs j)
 keeps-wakes_all f h [] k j s = s
 keeps-wakes_all f h (x ∷ xs) k j s =
     keeps-wakes_all f h xs k (wakes (f (task_at j x)) h x j)
-    (record { tick_signals = s.tick_signals; timer_signals = s.timer_signals; processing = s.processing; in_callback = s.in_callback; lock = s.lock })
+    (record { tick_signals = s.tick_signals; timer_signals = s.timer_signals; processing = s.processing; in_callback = s.in_callback })
 
 keeps-tail : (k : Kernel) (b : Bool) (e : Effect) → Keeps k e → Keeps k (waits_unless k b e)
 keeps-tail k true e s = same k
@@ -122,7 +123,7 @@ keeps-q_pend (Timed t) r x k = same k
 
 keeps-look : (ready : Option ℕ) (h x : ℕ) (k j : Kernel) → SameBehind k j → SameBehind k (flag_wakes ready h x j)
 keeps-look None h x k j s = s
-keeps-look (Some ready) h x k j s = record { tick_signals = s.tick_signals; timer_signals = s.timer_signals; processing = s.processing; in_callback = s.in_callback; lock = s.lock }
+keeps-look (Some ready) h x k j s = record { tick_signals = s.tick_signals; timer_signals = s.timer_signals; processing = s.processing; in_callback = s.in_callback }
 
 keeps-looks : (bits h : ℕ) (xs : List ℕ) (k j : Kernel) → SameBehind k j → SameBehind k (flag_wakes_all bits h xs j)
 keeps-looks bits h [] k j s = s
@@ -183,6 +184,65 @@ keeps-task_q_pend_on [] r x k =
     keeps-tail k (does_not_wait (argument r 1)) e (keeps-fields k e.kernel refl)
 keeps-task_q_pend_on (m ∷ ms) r x k = keeps-fields k (task_q_pend_on (m ∷ ms) r x k).kernel refl
 
+-- the scheduler
+
+keeps-lock : (k : Kernel) → Keeps k (sched_lock k)
+keeps-lock k =
+    let e = done (record k { lock = k.lock + 1 }) (fine (k.lock + 1)) in
+    choice (Keeps k) (k.lock == nesting_limit) (refused k LockOverflow) e (same k) (keeps-fields k e.kernel refl)
+
+keeps-unlocks : (n : ℕ) (k : Kernel) → Keeps k (unlocks n k)
+keeps-unlocks zero k = keeps-fields k (unlocks zero k).kernel refl
+keeps-unlocks (suc n) k = keeps-fields k (unlocks (suc n) k).kernel refl
+
+keeps-unlock : (x : ℕ) (k : Kernel) → Keeps k (sched_unlock x k)
+keeps-unlock x k =
+    choice (Keeps k) ((k.lock == 0) || ((k.lock == 1) && (x == timer_task))) (refused k SchedNotLocked) (unlocks (k.lock - 1) k) (same k) (keeps-unlocks (k.lock - 1) k)
+
+keeps-delays : (n x : ℕ) (k : Kernel) → Keeps k (delays n x k)
+keeps-delays zero x k = same k
+keeps-delays (suc n) x k = keeps-fields k (delays (suc n) x k).kernel refl
+
+keeps-delay : (r : Request) (x : ℕ) (k : Kernel) → Keeps k (time_dly r x k)
+keeps-delay r x k = choice (Keeps k) (k.lock == 0) (delays (delay_of r k.ticks) x k) (refused k SchedLocked) (keeps-delays (delay_of r k.ticks) x k) (same k)
+
+keeps-resume : (w : Waiting) (y h : ℕ) (k : Kernel) → Keeps k (resumes_delayed w y h k)
+keeps-resume Delay y h k = keeps-wakes_all (result_of (fine 0)) h (y ∷ []) k k (same k)
+keeps-resume _ y h k = same k
+
+-- aborts
+
+keeps-aborts : (xs : List ℕ) (h : ℕ) (k : Kernel) → Keeps k (aborts xs h k)
+keeps-aborts [] h k = same k
+keeps-aborts (x ∷ xs) h k = keeps-wakes_all (result_of (answer PendAbort 0)) h (x ∷ xs) k k (same k)
+
+keeps-abort : (r : Request) (h : ℕ) (k : Kernel) → Keeps k (pend_abort r h k)
+keeps-abort r h k = keeps-aborts (chosen (aborts_all (argument r 1)) (list_at k.pend (argument r 0))) h k
+
+keeps-task_abort_of : (b : Bool) (y h : ℕ) (k : Kernel) → Keeps k (task_abort_of b y h k)
+keeps-task_abort_of true y h k = keeps-wakes_all (result_of (answer PendAbort 0)) h (y ∷ []) k k (same k)
+keeps-task_abort_of false y h k = same k
+
+keeps-task_abort : (waits : Waiting → Bool) (r : Request) (x h : ℕ) (k : Kernel) → Keeps k (task_abort waits r x h k)
+keeps-task_abort waits r x h k =
+    let y = named_task r x in
+    let e = task_abort_of (waits (task_at k y).waiting) y h k in
+    choice (Keeps k) (y == x) (refused k PendAbortSelf) e (same k) (keeps-task_abort_of (waits (task_at k y).waiting) y h k)
+
+-- deletions
+
+keeps-gone : (o : ℕ) (k j : Kernel) → SameBehind k j → SameBehind k (without_object o j)
+keeps-gone o k j s = record { tick_signals = s.tick_signals; timer_signals = s.timer_signals; processing = s.processing; in_callback = s.in_callback }
+
+keeps-deletes : (all : Bool) (xs : List ℕ) (o h : ℕ) (k : Kernel) → Keeps k (deletes all xs o h k)
+keeps-deletes false (x ∷ xs) o h k = same k
+keeps-deletes false [] o h k = keeps-gone o k k (same k)
+keeps-deletes true xs o h k =
+    let f = result_of (answer ObjectDeleted 0) in keeps-gone o k (wakes_all f h xs k) (keeps-wakes_all f h xs k k (same k))
+
+keeps-delete : (r : Request) (h : ℕ) (k : Kernel) → Keeps k (delete r h k)
+keeps-delete r h k = keeps-deletes (deletes_always (argument r 1)) (list_at k.pend (argument r 0)) (argument r 0) h k
+
 -- each of them
 
 keeps-perform : (s : Service) (call : Call) (k : Kernel) → program_serves s ≡ true → Keeps k (perform s call k)
@@ -196,6 +256,19 @@ keeps-perform QPend call k e = keeps-q_pend (object_at k (argument call.request 
 keeps-perform FlagPend call k e = keeps-flag_pend (object_at k (argument call.request 0)).content call.request call.caller k
 keeps-perform TaskSemPend call k e = keeps-task_sem_pend_on (task_at k call.caller).count call.request call.caller k
 keeps-perform TaskQPend call k e = keeps-task_q_pend_on (task_at k call.caller).messages call.request call.caller k
+keeps-perform SchedLock call k e = keeps-lock k
+keeps-perform SchedUnlock call k e = keeps-unlock call.caller k
+keeps-perform TimeGet call k e = same k
+keeps-perform TimeDly call k e = keeps-delay call.request call.caller k
+keeps-perform SemPendAbort call k e = keeps-abort call.request call.compared k
+keeps-perform QPendAbort call k e = keeps-abort call.request call.compared k
+keeps-perform FlagPendAbort call k e = keeps-abort call.request call.compared k
+keeps-perform TaskSemPendAbort call k e = keeps-task_abort waits_for_semaphore call.request call.caller call.compared k
+keeps-perform TaskQPendAbort call k e = keeps-task_abort waits_for_queue call.request call.caller call.compared k
+keeps-perform SemDel call k e = keeps-delete call.request call.compared k
+keeps-perform QDel call k e = keeps-delete call.request call.compared k
+keeps-perform FlagDel call k e = keeps-delete call.request call.compared k
+keeps-perform TimeDlyResume call k e = let y = named_task call.request call.caller in keeps-resume (task_at k y).waiting y call.compared k
 keeps-perform _ call k e = absurd (false≢true e)
 
 keeps-checked : (o : Option OsErr) (call : Call) (k : Kernel) → program_serves call.request.service ≡ true → Keeps k (after_checks o call k)
@@ -241,7 +314,6 @@ same_behind-finished_with (Some f) x k =
       timer_signals = refl;
       processing = refl;
       in_callback = refl;
-      lock = refl;
     }
 
 kinds-finished_with : (o : Option Finished) (x : ℕ) (k : Kernel) → kinds_of (finished_with o x k) ≡ kinds_of k
@@ -265,7 +337,6 @@ steady-same kinds k j h e s =
         tick_signals = h.tick_signals ∙ s.still.tick_signals;
         timer_signals = h.timer_signals ∙ s.still.timer_signals;
         processing = h.processing ∙ s.still.processing;
-        lock = h.lock ∙ s.still.lock;
       };
       kinds = e ∙ s.kinds;
     }
@@ -278,6 +349,6 @@ steady-finished kinds x k s = steady-same kinds k (finished x k) (same_behind-fi
 
 pub steady-stopped : (kinds : KindTable) (x : ℕ) (k : Kernel) → IsSteady kinds k → IsSteady kinds (stopped x k)
 steady-stopped kinds x k s = record {
-  still = record { tick_signals = s.still.tick_signals; timer_signals = s.still.timer_signals; processing = s.still.processing; lock = refl };
+  still = record { tick_signals = s.still.tick_signals; timer_signals = s.still.timer_signals; processing = s.still.processing };
   kinds = s.kinds;
 }

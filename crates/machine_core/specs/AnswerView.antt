@@ -1,17 +1,30 @@
 -- What an answer changes in the kernel and the registers.
-use Rattle.std.specs.Prelude.{◌≡◌, ℕ, Option, Some, None, slice_index_or, slice_set}
+use Rattle.std.specs.Prelude.{◌≡◌, ℕ, List, Option, Some, None, slice_index_or, slice_set}
 use Rattle.kern_base.specs.declared.services.Service.{Service}
 use Rattle.kern_base.specs.declared.outcomes.Answer.{Answer}
 use Rattle.kern_base.specs.declared.outcomes.Finished.{Finished}
 use Rattle.kern_base.specs.declared.outcomes.Outcome.{Outcome}
 use Rattle.kern_base.specs.declared.outcomes.Outcome.TheVariants.{Answered, Waits, Gone}
-use Rattle.kern_model.specs.State.{task_at}
+use Rattle.kern_base.specs.declared.requests.Request.{Request}
+use Rattle.kern_model.specs.State.{task_at, prio_of}
+use Rattle.kern_model.specs.Served.{program_serves}
 use Rattle.kern_model.specs.Finish.{finished}
 use Rattle.rv32_exec.specs.Registers.{no_registers}
 use Rattle.kernel_calls.specs.KernelRecord.{KernelRecord, with_state}
+use Rattle.kernel_calls.specs.Works.{begun}
+use Rattle.machine_model.specs.Acts.{request_of}
 use Rattle.machine_model.specs.declared.events.What.{What}
 use Rattle.machine_model.specs.declared.events.What.TheVariants.{Quiet, Wait, Gone as GoneLine}
 use Rattle.machine_model.specs.Answers.{with_answer, returned, task_id, entries}
+
+-- the request of x, as its registers have it
+abbrev pub request_in : KernelRecord → ℕ → List ℕ → Request
+request_in k x memory = request_of program_serves (slice_index_or k.registers x no_registers) memory
+
+-- the call of x is in hand, at its beginning
+abbrev pub calling_kernel : KernelRecord → ℕ → List ℕ → KernelRecord
+calling_kernel k x memory =
+    record k { hand = Some (begun x (request_in k x memory) (prio_of k.state x) (prio_of k.state x)) }
 
 -- the registers of x have the answer
 abbrev pub answered_kernel : KernelRecord → ℕ → Service → Answer → KernelRecord

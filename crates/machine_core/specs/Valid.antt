@@ -1,4 +1,4 @@
--- What the machine keeps true of itself between two events, while it runs semaphores alone.
+-- What the machine keeps true of itself between two events, while no service signals the internal tasks.
 use Rattle.std.specs.Prelude.{◌≡◌, ℕ, ◌^◌, Bool, true, false}
 use Rattle.kern_base.specs.declared.kinds.Method.{Method}
 use Rattle.kern_base.specs.declared.kinds.Method.TheVariants.{Direct, Deferred}
@@ -22,12 +22,11 @@ most_task_steps = 1000000
 abbrev pub most_events : ℕ
 most_events = 2 ^ 41
 
--- the tick task and the timer task have nothing to do, and the scheduler is not locked
+-- the tick task and the timer task have nothing to do
 pub record IsStill (k : Kernel) : Type 0 where
   pub tick_signals : k.tick_signals ≡ 0
   pub timer_signals : k.timer_signals ≡ 0
   pub processing : k.processing ≡ false
-  pub lock : k.lock ≡ 0
 
 -- what happens next by this method, but for the raw steps
 abbrev pub change : Method → Machine → Change

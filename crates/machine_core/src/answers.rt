@@ -6,7 +6,7 @@ ghost use Rattle.kern_model.specs.Valid.{has_result};
 ghost use Rattle.kern_model.specs.Finish.{finished};
 ghost use Rattle.kern_model.specs.Served.{program_serves};
 ghost use Rattle.rv32_exec.specs.Registers.{no_registers, read};
-ghost use Rattle.machine_model.specs.Answers.{with_answer, with_table, returned, size_or_zero};
+ghost use Rattle.machine_model.specs.Answers.{arguments, with_answer, with_table, returned, size_or_zero};
 ghost use Rattle.machine_model.specs.Acts.{request_of, called};
 ghost use Rattle.machine_core.specs.AnswerView.{answered_kernel, finished_kernel, finished_line};
 
@@ -38,18 +38,29 @@ pub(crate) fn request_in(regs: &Regs) -> Request
     }
 }
 
+// The words of the arguments of a service, and 0 in each place that it has no argument for.
+pub(crate) fn arguments(service: Service, words: &[u32; 4]) -> [u32; 4]
+    ensures { result ≡ arguments service words.now }
+{
+    let [first, second, third, fourth] = *words;
+    match service.args() {
+        0 => [0; 4],
+        1 => [first, 0, 0, 0],
+        2 => [first, second, 0, 0],
+        3 => [first, second, third, 0],
+        _ => [first, second, third, fourth],
+    }
+}
+
 // Writes the event of a call, with the arguments of its service.
 pub(crate) fn call_line(task: TaskId, request: &Request, line: &mut What)
     ensures { line.new ≡ called task.0 request.now }
 {
-    let n_args = request.service.args();
-    let mut args = [0; 4];
-    args[..n_args].copy_from_slice(&request.args[..n_args]);
     *line = What::Call {
         task,
         service: request.service,
-        args,
-        n_args: n_args as u8,
+        args: arguments(request.service, &request.args),
+        n_args: request.service.args() as u8,
     };
 }
 

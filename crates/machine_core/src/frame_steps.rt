@@ -15,6 +15,7 @@ ghost use Rattle.machine_model.specs.Machine.{Machine};
 ghost use Rattle.machine_core.specs.FrameCalls.{top_of, checked_to, post_call, top_called, refused_frame, frame_stepped};
 ghost use Rattle.machine_core.specs.IsrStep.{HasParts, IsStepOf};
 
+use crate::answers::arguments;
 use crate::posts::Posts;
 use crate::{How, What};
 use call_checks::{interrupt_error, is_post, is_served};
@@ -114,14 +115,11 @@ fn post<P: Posts>(
     let answer = checked(posts, kinds, post, prio);
     frames.answer_top(answer);
     frames.mark_result();
-    let n_args = post.service.args();
-    let mut args = [0; 4];
-    args[..n_args].copy_from_slice(&post.args[..n_args]);
     *line = What::Post {
         vector,
         service: post.service,
-        args,
-        n_args: n_args as u8,
+        args: arguments(post.service, &post.args),
+        n_args: post.service.args() as u8,
         err: answer.err,
         value: answer.value,
     };

@@ -160,7 +160,7 @@ impl<L: Links> Machine<L> {
             self.begun = true;
             event.what = What::Start { task: before };
         }
-        event.switch = switch_of(before, self.current);
+        write_switch(before, self.current, &mut event.switch);
     }
 
     /// The task steps so far.
@@ -298,13 +298,12 @@ impl<L: Links> Machine<L> {
     }
 }
 
-// The current task before and after, where it changed.
-fn switch_of(before: TaskId, now: TaskId) -> Option<(TaskId, TaskId)>
-    ensures { result ≡ switch_of before.0 now.0 }
+// Writes the current task before and after, where it changed.
+fn write_switch(before: TaskId, now: TaskId, switch: &mut Option<(TaskId, TaskId)>)
+    ensures { switch.new ≡ switch_of before.0 now.0 }
 {
-    if before == now {
-        None
-    } else {
-        Some((before, now))
+    *switch = None;
+    if before != now {
+        *switch = Some((before, now));
     }
 }

@@ -1,6 +1,6 @@
 // The handler performs the posts that wait, one after another.
 
-ghost use Rattle.std.specs.Prelude.{ℕ, ◌≡◌, ◌&&◌, ◌+◌, ◌<◌, true, None, Some};
+ghost use Rattle.std.specs.Prelude.{ℕ, ◌≡◌, ◌&&◌, ◌+◌, ◌<◌, true, false, None, Some};
 ghost use Rattle.kern_model.specs.Services.{cost};
 ghost use Rattle.kernel_calls.specs.KernelRecord.{ended, IsOpen};
 ghost use Rattle.kernel_calls.specs.Works.{effect_of, stepped, WorkRecord};
@@ -13,10 +13,11 @@ ghost use Rattle.machine_model.specs.Steps.{some_readied};
 ghost use Rattle.machine_model.specs.declared.events.What.TheVariants.{Take};
 ghost use Rattle.machine_core.specs.Valid.{most_task_steps, change, changed};
 
+use crate::answers::arguments;
 use crate::tasks::settle;
 use crate::{Machine, What};
 use kern_base::{Answer, OsErr, Outcome, Prio, Service};
-use kernel_calls::{Kernel, Progress};
+use kernel_calls::Kernel;
 use links::Links;
 
 // The handler's priority.
@@ -59,41 +60,47 @@ impl<L: Links> Machine<L> {
         ensures machine { self.new ≡ changed self.old }
     {
         let literal = self.config.insert == 1;
-        let (progress, same) = perform(&mut self.kernel, saved, literal);
-        if let Progress::Done(outcome) = progress {
-            take_line(service, &args, outcome, same, line);
+        let mut outcome = Outcome::Waits;
+        let (last, same) = perform(&mut self.kernel, saved, literal, &mut outcome);
+        if last {
+            take_line(service, &args, &outcome, same, line);
             self.later.drop_front();
             self.current = settle(&self.kernel, &self.later, self.current);
         }
     }
 }
 
-// One micro-step of a take, and with the literal insertion rule, whether it was the last one and readied a task of
-// the priority that was saved with the post.
-fn perform<L: Links>(kernel: &mut Kernel<L>, saved: Prio, literal: bool) -> (Progress, bool)
+// One micro-step of a take. Tells whether it was the last one, which writes what the post came to over an older outcome, and with
+// the literal insertion rule, whether it readied a task of the priority that was saved with the post.
+fn perform<L: Links>(
+    kernel: &mut Kernel<L>,
+    saved: Prio,
+    literal: bool,
+    outcome: &mut Outcome,
+) -> (bool, bool)
     requires busy { (w : WorkRecord) × (kernel.old.hand ≡ Some w) }
     ensures more { (w : WorkRecord) → kernel.old.hand ≡ Some w → w.done + 1 < cost (effect_of w kernel.old.state) kernel.old.state
-        → (result.0 ≡ Progress.More) × (kernel.new ≡ record kernel.old { hand = Some (stepped w) }) }
+        → (result.0 ≡ false) × (kernel.new ≡ record kernel.old { hand = Some (stepped w) }) }
     ensures done { (w : WorkRecord) → kernel.old.hand ≡ Some w → w.done + 1 ≡ cost (effect_of w kernel.old.state) kernel.old.state
-        → (result.0 ≡ Progress.Done (effect_of w kernel.old.state).outcome) × (kernel.new ≡ ended kernel.old w) }
+        → (result.0 ≡ true) × (outcome.new ≡ (effect_of w kernel.old.state).outcome) × (kernel.new ≡ ended kernel.old w) }
     ensures same { result.1 ≡ (literal && some_readied saved.0 kernel.old.state.tasks kernel.new.state.tasks) }
     ensures open_yet { IsOpen kernel.old.hand kernel.old.state }
 {
     if !literal {
-        return (kernel.advance(), false);
+        return (kernel.advance_into(outcome), false);
     }
     let before = kernel.ready_tasks();
-    let progress = kernel.advance();
+    let last = kernel.advance_into(outcome);
     let same = kernel.has_readied(&before, saved);
-    (progress, same)
+    (last, same)
 }
 
 // The answer of a post that was performed.
-fn answer_in(outcome: Outcome) -> Answer
-    ensures { result ≡ answer_in outcome }
+fn answer_in(outcome: &Outcome) -> Answer
+    ensures { result ≡ answer_in outcome.now }
 {
     match outcome {
-        Outcome::Answered(answer, _) => answer,
+        Outcome::Answered(answer, _) => *answer,
         _ => Answer {
             err: OsErr::NoError,
             value: 0,
@@ -103,17 +110,14 @@ fn answer_in(outcome: Outcome) -> Answer
 }
 
 // Writes the event of a take at its end.
-fn take_line(service: Service, words: &[u32; 4], outcome: Outcome, same: bool, line: &mut What)
-    ensures { let a = answer_in outcome in line.new ≡ Take service (arguments service words.now) (argument_count service) a.err a.value same }
+fn take_line(service: Service, words: &[u32; 4], outcome: &Outcome, same: bool, line: &mut What)
+    ensures { let a = answer_in outcome.now in line.new ≡ Take service (arguments service words.now) (argument_count service) a.err a.value same }
 {
-    let n_args = service.args();
-    let mut args = [0; 4];
-    args[..n_args].copy_from_slice(&words[..n_args]);
     let answer = answer_in(outcome);
     *line = What::Take {
         service,
-        args,
-        n_args: n_args as u8,
+        args: arguments(service, words),
+        n_args: service.args() as u8,
         err: answer.err,
         value: answer.value,
         same,

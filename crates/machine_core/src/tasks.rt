@@ -1,21 +1,22 @@
 // What tasks do: the whole step in hand, and the acts of the current task.
 
-ghost use Rattle.std.specs.Prelude.{◌≡◌, ◌==◌, ◌<◌, ℕ, true, false, [], IsSome, IsSomeAnd, None};
+ghost use Rattle.std.specs.Prelude.{◌≡◌, ◌==◌, ◌<◌, ℕ, List, true, false, [], IsSome, IsSomeAnd, None};
 ghost use Rattle.kern_model.specs.State.{task_at, is_ready};
 ghost use Rattle.kern_model.specs.Served.{program_serves};
+ghost use Rattle.kern_model.specs.Valid.{MayCall};
 ghost use Rattle.kernel_calls.specs.KernelRecord.{KernelRecord};
 ghost use Rattle.machine_model.specs.Settling.{settled_task};
-ghost use Rattle.machine_model.specs.Acts.{acts};
+ghost use Rattle.machine_model.specs.Acts.{acts, called};
 ghost use Rattle.machine_model.specs.Rules.{rule, rule_in_hand, TaskActs};
 ghost use Rattle.machine_core.specs.MethodMachine.{next_machine};
-ghost use Rattle.machine_core.specs.AnswerView.{ended_kernel, ended_line, HasNoTable};
+ghost use Rattle.machine_core.specs.AnswerView.{calling_kernel, ended_kernel, ended_line, request_in, HasNoTable};
 ghost use Rattle.machine_core.specs.Valid.{most_task_steps, change, changed};
 
 use crate::answers::{answer, call_line, finish, request_in};
 use crate::{Machine, What};
 use deferred_queue::DeferredQueue;
 use kern_base::{Outcome, Service, TaskId};
-use kernel_calls::{Kernel, Progress};
+use kernel_calls::Kernel;
 use links::Links;
 use rv32_exec::Stepped;
 
@@ -74,13 +75,11 @@ impl<L: Links> Machine<L> {
             self.advance_take(service, args, saved, line);
             return;
         }
-        match self.kernel.advance() {
-            Progress::More => {}
-            Progress::Done(outcome) => {
-                end(&mut self.kernel, self.current, service, outcome, line);
-                self.t += 1;
-                self.current = settle(&self.kernel, &self.later, self.current);
-            }
+        let mut outcome = Outcome::Waits;
+        if self.kernel.advance_into(&mut outcome) {
+            end(&mut self.kernel, self.current, service, &outcome, line);
+            self.t += 1;
+            self.current = settle(&self.kernel, &self.later, self.current);
         }
     }
 
@@ -129,13 +128,7 @@ impl<L: Links> Machine<L> {
                     value,
                 };
             }
-            Stepped::Call => {
-                let tcb = self.kernel.tcb(task);
-                let prio = tcb.prio;
-                let request = request_in(&tcb.regs);
-                self.kernel.begin(task, &request, prio, prio);
-                call_line(task, &request, line);
-            }
+            Stepped::Call => call(&mut self.kernel, task, line),
             Stepped::Trap(kind, pc) => {
                 self.kernel.stop(task);
                 self.t += 1;
@@ -144,6 +137,21 @@ impl<L: Links> Machine<L> {
             }
         }
     }
+}
+
+// A task has called: the call becomes the whole step in hand.
+fn call<L: Links>(kernel: &mut Kernel<L>, task: TaskId, line: &mut What)
+    requires inside { task.0 < 64 }
+    requires may { MayCall task.0 kernel.old.state }
+    requires free { kernel.old.hand ≡ None }
+    ensures kernel { (memory : List ℕ) → kernel.new ≡ calling_kernel kernel.old task.0 memory }
+    ensures line { (memory : List ℕ) → line.new ≡ called task.0 (request_in kernel.old task.0 memory) }
+{
+    let tcb = kernel.tcb(task);
+    let prio = tcb.prio;
+    let request = request_in(&tcb.regs);
+    kernel.begin(task, &request, prio, prio);
+    call_line(task, &request, line);
 }
 
 // Unless the scheduler is locked or a post waits, the task that the scheduler picks becomes the current one.
@@ -163,17 +171,17 @@ fn end<L: Links>(
     kernel: &mut Kernel<L>,
     task: TaskId,
     service: Service,
-    outcome: Outcome,
+    outcome: &Outcome,
     line: &mut What,
 )
     requires inside { task.0 < 64 }
-    requires plain { HasNoTable outcome }
+    requires plain { HasNoTable outcome.now }
     requires blank { line.old ≡ What.Quiet }
-    ensures kernel { kernel.new ≡ ended_kernel kernel.old task.0 service outcome }
-    ensures line { line.new ≡ ended_line task.0 service outcome }
+    ensures kernel { kernel.new ≡ ended_kernel kernel.old task.0 service outcome.now }
+    ensures line { line.new ≡ ended_line task.0 service outcome.now }
 {
     match outcome {
-        Outcome::Answered(given, _) => answer(kernel, task, service, given, line),
+        Outcome::Answered(given, _) => answer(kernel, task, service, *given, line),
         Outcome::Waits => *line = What::Wait { task, service },
         Outcome::Gone => *line = What::Gone { task },
         Outcome::Quiet(_) => {}

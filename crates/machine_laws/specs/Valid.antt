@@ -4,7 +4,7 @@ use Rattle.kern_base.specs.declared.kinds.Method.{Method}
 use Rattle.kern_base.specs.declared.kinds.Method.TheVariants.{Direct, Deferred}
 use Rattle.kern_base.specs.declared.services.Service.{Service}
 use Rattle.kern_base.specs.Services.{is_post}
-use Rattle.kern_model.specs.State.{Kernel, task_at, is_ready, pick}
+use Rattle.kern_model.specs.State.{Kernel, application_limit, tick_task, timer_task, task_at, is_ready, pick}
 use Rattle.kern_model.specs.Services.{cost}
 use Rattle.kern_model.specs.Valid.{IsLinked, MayCall}
 use Rattle.app_image.specs.Image.{ImageRecord, IsValidImage}
@@ -38,7 +38,7 @@ Fits Deferred later hand frames = Unit {0}
 -- While the scheduler is locked the current task is a ready application task, and the timer task is not processing, or it is
 -- the timer task, which is processing.
 abbrev pub HoldsLock : ℕ → Kernel → Type 0
-HoldsLock x k = ((x < 60) × (is_ready (task_at k x) ≡ true) × (k.processing ≡ false)) ⊎ ((x ≡ 61) × (k.processing ≡ true))
+HoldsLock x k = ((x < application_limit) × (is_ready (task_at k x) ≡ true) × (k.processing ≡ false)) ⊎ ((x ≡ timer_task) × (k.processing ≡ true))
 
 -- under the direct method no frame stands; under the deferred one it does not matter
 abbrev pub NoDirectFrame : Method → List FrameRecord → Type 0
@@ -61,10 +61,10 @@ pub record IsCallInHand (x : ℕ) (current : ℕ) (k : Kernel) : Type 0 where
 -- where the timer task is processing
 pub record IsUnitInHand (x : ℕ) (current : ℕ) (k : Kernel) : Type 0 where
   pub worker : x ≡ current
-  pub internal : (x ≡ 60) ⊎ (x ≡ 61)
+  pub internal : (x ≡ tick_task) ⊎ (x ≡ timer_task)
   pub ready : is_ready (task_at k x) ≡ true
   pub no_callback : k.in_callback ≡ false
-  pub lock : (k.lock ≡ 0) ⊎ ((x ≡ 61) × (k.processing ≡ true))
+  pub lock : (k.lock ≡ 0) ⊎ ((x ≡ timer_task) × (k.processing ≡ true))
 
 -- the taking of the post that waits longest, where the scheduler is not locked
 pub record IsTakeInHand (q : Queued) (later : List Queued) (k : Kernel) : Type 0 where
@@ -82,10 +82,10 @@ pub record IsInHand (served : Service → Bool) (config : Config) (w : WholeStep
   pub begun : IsBegun w.work k current later
   pub more : w.done < cost (effect_of served config w.work k) k
 
--- what is in hand
-abbrev pub Stands : (Service → Bool) → Method → Config → Option WholeStep → Kernel → ℕ → List Queued → List FrameRecord → Type 0
-Stands served method config None k current later frames = IsAtRest method k current later frames
-Stands served method config (Some w) k current later frames = IsInHand served config w k current later
+-- what is in hand: nothing, and the machine is at rest, or a whole step
+abbrev pub IsValidHand : (Service → Bool) → Method → Config → Option WholeStep → Kernel → ℕ → List Queued → List FrameRecord → Type 0
+IsValidHand served method config None k current later frames = IsAtRest method k current later frames
+IsValidHand served method config (Some w) k current later frames = IsInHand served config w k current later
 
 -- A valid machine.
 pub record IsValidMachine (served : Service → Bool) (method : Method) (m : Machine) : Type 0 where
@@ -95,7 +95,7 @@ pub record IsValidMachine (served : Service → Bool) (method : Method) (m : Mac
   pub interrupts : All (λ i. i.level ≤ 7) m.interrupts
   pub queue : IsQueue m.config.defer_size m.later
   pub fits : Fits method m.later m.in_hand m.frames
-  pub stands : Stands served method m.config m.in_hand m.kernel m.current m.later m.frames
+  pub stands : IsValidHand served method m.config m.in_hand m.kernel m.current m.later m.frames
 
 -- Every event keeps the machine valid.
 abbrev pub NextKeepsValid : Type 0
@@ -107,4 +107,4 @@ StartIsValid = (served : Service → Bool) (method : Method) (image : ImageRecor
 
 -- While the timer task is processing it is the current task.
 abbrev pub TimerTaskIsCurrent : Type 0
-TimerTaskIsCurrent = (served : Service → Bool) (method : Method) (m : Machine) → IsValidMachine served method m → m.kernel.processing ≡ true → m.current ≡ 61
+TimerTaskIsCurrent = (served : Service → Bool) (method : Method) (m : Machine) → IsValidMachine served method m → m.kernel.processing ≡ true → m.current ≡ timer_task

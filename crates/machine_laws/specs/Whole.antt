@@ -1,5 +1,5 @@
 -- The whole of what a machine keeps true of itself: it is valid, and its kernel's state is whole.
-use Rattle.std.specs.Prelude.{All, ℕ, Bool, List, Option, Some, None}
+use Rattle.std.specs.Prelude.{All, Bool, List, Option, Some, None}
 use Rattle.kern_base.specs.declared.kinds.Method.{Method}
 use Rattle.kern_base.specs.declared.services.Service.{Service}
 use Rattle.kern_model.specs.Valid.{IsRequest, IsValid, IsWord}

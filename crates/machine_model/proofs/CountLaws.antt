@@ -1,6 +1,6 @@
 -- What any event does to the counts: raw steps are counted by the rule alone, and there is at most one task step.
 use Rattle.std.specs.Prelude.{if◌then◌else◌, ◌==◌, ◌&&◌}
-use Rattle.std.proofs.Common.{◌≡◌, ◌≤◌, ℕ, ◌+◌, Bool, true, false, List, ◌∷◌, Option, Some, None, refl, arith}
+use Rattle.std.proofs.Common.{◌≡◌, ◌≤◌, ℕ, ◌+◌, Bool, List, ◌∷◌, Option, Some, None, refl, arith}
 use Rattle.kern_base.specs.declared.kinds.Method.{Method}
 use Rattle.kern_base.specs.declared.services.Service.{Service}
 use Rattle.kern_base.specs.declared.errors.OsErr.TheVariants.{CallUnknown}
@@ -10,6 +10,7 @@ use Rattle.kern_base.specs.declared.outcomes.Outcome.TheVariants.{Answered, Wait
 use Rattle.kern_base.specs.Services.{is_post, service_of, interrupt_error}
 use Rattle.kern_model.specs.State.{Kernel, task_at, idle_task}
 use Rattle.kern_model.specs.Services.{cost}
+use Rattle.kern_model.proofs.Lemmas.{choice}
 use Rattle.rv32_exec.specs.Registers.{Registers, read}
 use Rattle.rv32_exec.specs.Exec.{Execution, exec}
 use Rattle.rv32_exec.specs.declared.Stepped.{Stepped}
@@ -26,11 +27,6 @@ use Rattle.machine_model.specs.Interrupts.{without_top, leaves, frame_goes_on, f
 use Rattle.machine_model.specs.Steps.{call_ends, unit_ends, ends, advances}
 use Rattle.machine_model.specs.Acts.{acts, instructs, idles, starts_unit, works_in_units}
 use Rattle.machine_model.specs.Rules.{Rule, Begins, Looks, Enters, FrameLimit, FrameRuns, MicroStep, TakeBegins, TaskActs, rule, done, next}
-
--- what holds of both outcomes of a choice
-pub choice : {A : Type 0} (P : A → Type 0) (b : Bool) (x y : A) → P x → P y → P (if b then x else y)
-choice P true x y p q = p
-choice P false x y p q = q
 
 -- the raw steps are the same, and there is at most one task step more
 pub record Counts (m n : Machine) : Type 0 where

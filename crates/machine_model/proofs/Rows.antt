@@ -57,10 +57,10 @@ all_wake = refl
 
 -- stores, services that are not served, and tasks that trap
 abbrev faults : ImageRecord
-faults = image_with ((task (codes "a") 0 7 0x140000) ∷ (task (codes "b") 12 8 0x13e000) ∷ []) [] (0x00700293 ∷ 0x00532023 ∷ 0xff9ff06f ∷ 0x00100337 ∷ 0x00030313 ∷ 0x1ff00293 ∷ 0x005300a3 ∷ 0x00032403 ∷ 0x02000893 ∷ 0x00000073 ∷ 0x00900513 ∷ 0x00800893 ∷ 0x00000073 ∷ 0x00040067 ∷ []) (0x01020304 ∷ [])
+faults = image_with ((task (codes "a") 0 7 0x140000) ∷ (task (codes "b") 12 8 0x13e000) ∷ []) [] (0x00700293 ∷ 0x00532023 ∷ 0xff9ff06f ∷ 0x00100337 ∷ 0x00030313 ∷ 0x1ff00293 ∷ 0x005300a3 ∷ 0x00032403 ∷ 0x00d00893 ∷ 0x00000073 ∷ 0x00900513 ∷ 0x00800893 ∷ 0x00000073 ∷ 0x00040067 ∷ []) (0x01020304 ∷ [])
 
 trap_and_store : run_text program_serves Direct faults no_injections 16 ≡
-    codes "0 0 start a\n1 1 trap a store 4\n1 1 sw a b\n5 5 st b 1048577 1 255\n8 8 call b OSSchedLock\n10 8 ret b OSSchedLock ERR_CALL_UNKNOWN 0\n13 11 call b OSQPend 9 0 0\n15 11 ret b OSQPend OS_ERR_OBJ_TYPE 0 0\n17 13 trap b fetch 16973572\n17 13 sw b idle\n20 16 end\n"
+    codes "0 0 start a\n1 1 trap a store 4\n1 1 sw a b\n5 5 st b 1048577 1 255\n8 8 call b OSPendMulti 0 0 0 0\n10 8 ret b OSPendMulti ERR_CALL_UNKNOWN 0\n13 11 call b OSQPend 9 0 0\n15 11 ret b OSQPend OS_ERR_OBJ_TYPE 0 0\n17 13 trap b fetch 16973572\n17 13 sw b idle\n20 16 end\n"
 unfolding digits cost decoded
 trap_and_store = refl
 

@@ -23,11 +23,11 @@ pub record HasNext (served : Service → Bool) (method : Method) (image : ImageR
   pub follows : run_text served method image list n ≡ front ++ (event_text image (next served method m).0 ++ rest)
   pub printed : events_left n (next served method m).1 < events_left n m → HasPrinted served method image list n (front ++ event_text image (next served method m).0) (next served method m).1
 
-chosen_false : {A : Type 0} (b : Bool) (x y : A) → b ≡ false → (elim b [ true ↦ x | false ↦ y ]) ≡ y
+pub chosen_false : {A : Type 0} (b : Bool) (x y : A) → b ≡ false → (elim b [ true ↦ x | false ↦ y ]) ≡ y
 chosen_false true x y e = cc
 chosen_false false x y e = refl
 
-chosen_true : {A : Type 0} (b : Bool) (x y : A) → b ≡ true → (elim b [ true ↦ x | false ↦ y ]) ≡ x
+pub chosen_true : {A : Type 0} (b : Bool) (x y : A) → b ≡ true → (elim b [ true ↦ x | false ↦ y ]) ≡ x
 chosen_true true x y e = refl
 chosen_true false x y e = cc
 

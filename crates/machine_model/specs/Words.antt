@@ -5,6 +5,7 @@ use Rattle.kern_base.specs.declared.services.Service.{Service}
 use Rattle.kern_base.specs.declared.services.Service.TheVariants.{QPend, TaskQPend, Unknown}
 use Rattle.kern_base.specs.Services.{service_name}
 use Rattle.kern_base.specs.Errors.{error_name}
+use Rattle.kern_model.specs.State.{tick_task, timer_task}
 use Rattle.rv32_exec.specs.declared.TrapKind.{TrapKind}
 use Rattle.rv32_exec.specs.declared.TrapKind.TheVariants.{Illegal, Break, Jump, Fetch, Load, Store}
 use Rattle.app_image.specs.declared.records.TaskDef.{TaskDef}
@@ -21,7 +22,7 @@ use Rattle.machine_model.specs.declared.events.What.TheVariants.{Quiet, Start, C
 
 -- the name of an internal task
 abbrev pub internal_name : ℕ → List ℕ
-internal_name x = if x == 60 then codes "tick" else (if x == 61 then codes "tmr" else codes "idle")
+internal_name x = if x == tick_task then codes "tick" else (if x == timer_task then codes "tmr" else codes "idle")
 
 -- the name of a task that is declared so, or not at all
 abbrev pub declared_name : ℕ → Option TaskDef → List ℕ

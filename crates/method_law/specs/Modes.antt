@@ -17,8 +17,8 @@ abbrev pub at_step : ℕ → List Look → Machine → Machine
 at_step s looks m = record m { s = s; looks = looks }
 
 -- no frame stands and no post waits; this is in hand
-abbrev pub calm_machine : Bool → Option WholeStep → Machine → Machine
-calm_machine begun hand d = record d { frames = []; later = []; in_hand = hand; begun = begun }
+abbrev pub task_level_machine : Bool → Option WholeStep → Machine → Machine
+task_level_machine begun hand d = record d { frames = []; later = []; in_hand = hand; begun = begun }
 
 -- one frame stands, nothing is in hand, and these posts wait
 abbrev pub frame_machine : FrameRecord → List Queued → Machine → Machine
@@ -60,9 +60,9 @@ pub record IsOpen (n : ℕ) (later : List Queued) (d : Machine) : Type 0 where
 
 -- The machines of both runs to n task steps, the deferred one first. The direct one is never ahead in raw steps.
 pub data Related (served : Service → Bool) (n : ℕ) : Machine → Machine → Type 0 where
-  -- calm: they are the same
-  calm : (d : Machine) (begun : Bool) (hand : Option WholeStep) (s : ℕ) (looks : List Look) → HasNoTake hand → s ≤ d.s
-      → Related served n (calm_machine begun hand d) (at_step s looks (calm_machine begun hand d))
+  -- at task level they are the same
+  task_level : (d : Machine) (begun : Bool) (hand : Option WholeStep) (s : ℕ) (looks : List Look) → HasNoTake hand → s ≤ d.s
+      → Related served n (task_level_machine begun hand d) (at_step s looks (task_level_machine begun hand d))
   -- a frame stands: the direct kernel has the posts that wait, and registers of the frame may differ
   frame : (d : Machine) (f : FrameRecord) (registers : Registers) (later : List Queued) (s : ℕ) (looks : List Look)
       → FrameAgrees f registers → IsOpen n later d → s ≤ d.s

@@ -1,9 +1,9 @@
 -- One micro-step more of a whole step. Proved once, for every list of blocks.
-use Rattle.std.proofs.Common.{◌≡◌, ℕ, zero, suc, ◌+◌, ◌<◌, ◌≤◌, List, [], ◌∷◌, ◌++◌, length, take, drop, map, insert, refl, sym, ap, ◌∙◌, subst, arith, add-one}
+use Rattle.std.proofs.Common.{◌≡◌, ℕ, zero, suc, ◌+◌, ◌<◌, ◌≤◌, List, [], ◌∷◌, ◌++◌, length, take, drop, map, refl, sym, ap, ◌∙◌, subst, arith, add-one}
 use Rattle.std.proofs.Math.Nat.{not-suc-le-zero}
 use Rattle.kern_base.specs.declared.numbers.Prio.{Prio}
-use Rattle.kern_model.specs.Micro.{Micro, Plain, JoinForward, JoinBack, LeaveForward, LeaveBack, Mark, Block, Halves, Lists, changed, changed_all, whole, in_order, after, at_chain}
-use Rattle.kern_model.specs.State.{without}
+use Rattle.kern_model.specs.Micro.{Micro, Block, Halves, Lists, changed, changed_all, whole, in_order, after}
+use Rattle.kern_model.proofs.Lemmas.{same_forward}
 use Rattle.micro_steps.specs.declared.link.Link.{Link}
 use Rattle.micro_steps.specs.declared.link.Cursor.{Cursor}
 use Rattle.micro_steps.specs.Blocks.{IsAt, rest, block_of, IsEven, one_made}
@@ -46,19 +46,6 @@ pub halfway-last : (ms : List Micro) (l : Lists) (i n : ℕ) (prios : List Prio)
 halfway-last ms l i n prios c bs h j at even e r =
     let step = one_more ms l i n prios c bs h j at e in
     record { even = even; left = rw r at step.0; chains = step.1 }
-
--- the forward lists after micro-steps come of the forward lists before them
-same_step : (m : Micro) (h j : Halves) → h.forward ≡ j.forward → (changed m h).forward ≡ (changed m j).forward
-same_step Plain h j e = e
-same_step (JoinForward c x i) h j e = ap (λ l. at_chain c (λ xs. insert xs i x) l) e
-same_step (JoinBack c x i) h j e = e
-same_step (LeaveForward c x) h j e = ap (λ l. at_chain c (without x) l) e
-same_step (LeaveBack c x) h j e = e
-same_step (Mark p) h j e = e
-
-pub same_forward : (ms : List Micro) (h j : Halves) → h.forward ≡ j.forward → (changed_all ms h).forward ≡ (changed_all ms j).forward
-same_forward [] h j e = e
-same_forward (m ∷ ms) h j e = same_forward ms (changed m h) (changed m j) (same_step m h j e)
 
 -- The next block begins.
 pub between-next : (ms : List Micro) (l : Lists) (i n : ℕ) (prios : List Prio) (k : Link) (place : ℕ) (b : Block) (bs : List Block) (h : Halves) → IsBetween ms l i n (b ∷ bs) h → IsAt prios (fresh k place) h → map on_tasks (block_of prios k h.back) ≡ b (seen n h).forward → IsHalfway ms l i n prios (fresh k place) bs h

@@ -32,7 +32,7 @@ tasks-left lists o n alone =
     ∙ ap (λ xs. slice_set (tasks_in lists) o xs) (map-without (λ m. m / 8) n (list_at lists o) alone ∙ ap (without (n / 8)) (sym (list_at-tasks lists o)))
 
 -- of the first lists alone
-take-update : (k : ℕ) (lists : List (List ℕ)) (o : ℕ) (f : List ℕ → List ℕ) → take k (slice_set lists o (f (list_at lists o))) ≡ slice_set (take k lists) o (f (list_at (take k lists) o))
+pub take-update : (k : ℕ) (lists : List (List ℕ)) (o : ℕ) (f : List ℕ → List ℕ) → take k (slice_set lists o (f (list_at lists o))) ≡ slice_set (take k lists) o (f (list_at (take k lists) o))
 take-update zero [] o f = refl
 take-update (suc k) [] o f = refl
 take-update zero (xs ∷ lists) zero f = refl

@@ -4,6 +4,7 @@ use Rattle.std.specs.Prelude.{replicate, nat_le, if◌then◌else◌}
 use Rattle.std.proofs.lemmas.List.Sums.{take_while-cons}
 use Rattle.kern_base.specs.declared.numbers.Prio.{Prio}
 use Rattle.kern_model.specs.Micro.{Micro, Plain, JoinForward, JoinBack, Pend, Halves, Lists, changed_all, whole, wait_place}
+use Rattle.kern_model.proofs.Lemmas.{same_forward}
 use Rattle.links.specs.Chain.{list_at}
 use Rattle.pend_lists.proofs.Tasks.{one_node}
 use Rattle.micro_steps.specs.declared.link.Link.{Link}
@@ -12,16 +13,15 @@ use Rattle.micro_steps.specs.declared.link.Cursor.{Cursor}
 use Rattle.micro_steps.specs.Blocks.{IsAt, rest, one_made, block_of, IsEven, prio_in, prio_by}
 use Rattle.micro_steps.specs.Starts.{AreChains}
 use Rattle.micro_steps.specs.Halfway.{on_tasks, tasks_in, seen_lists, fresh}
-use Rattle.micro_steps.specs.Whole.{task_block, prios_after, FitsLink, AreFit, start_place}
+use Rattle.micro_steps.specs.Whole.{task_block, FitsLink, start_place}
 use Rattle.micro_steps.proofs.Seen.{list_at-tasks, list_at-take}
-use Rattle.micro_steps.proofs.Halves.{same_forward}
 
-longer : (b : Bool) (x y : ℕ) (xs ys : List ℕ) → length xs ≡ length ys → length (if b then x ∷ xs else []) ≡ length (if b then y ∷ ys else [])
+pub longer : (b : Bool) (x y : ℕ) (xs ys : List ℕ) → length xs ≡ length ys → length (if b then x ∷ xs else []) ≡ length (if b then y ∷ ys else [])
 longer true x y xs ys e = ap suc e
 longer false x y xs ys e = refl
 
 -- as many entries are passed by tasks as by nodes
-place-tasks : (prio : ℕ → ℕ) (p : ℕ) (xs : List ℕ) → wait_place (λ n. prio (n / 8)) p xs ≡ wait_place prio p (map (λ n. n / 8) xs)
+pub place-tasks : (prio : ℕ → ℕ) (p : ℕ) (xs : List ℕ) → wait_place (λ n. prio (n / 8)) p xs ≡ wait_place prio p (map (λ n. n / 8) xs)
 place-tasks prio p [] = refl
 place-tasks prio p (x ∷ xs) =
     rw (take_while-cons (λ y. nat_le (prio (y / 8)) p) x xs, take_while-cons (λ y. nat_le (prio y) p) (x / 8) (map (λ n. n / 8) xs)) (longer (nat_le (prio (x / 8)) p) x (x / 8) _ _ (place-tasks prio p xs))

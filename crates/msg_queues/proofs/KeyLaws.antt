@@ -5,7 +5,7 @@ use Rattle.std.proofs.lemmas.Bool.{cases_lt, false≢true}
 use Rattle.std.proofs.lemmas.Bool.Decides.{eqb_tells}
 use Rattle.kern_model.specs.State.{count_of}
 use Rattle.kern_model.specs.Queues.{stored}
-use Rattle.kern_model.proofs.Lists.Counts.{count-append}
+use Rattle.kern_model.proofs.Lemmas.{count-append}
 use Rattle.msg_queues.specs.Stored.{Pool, message_at, message_or_none, messages_under, AreStored, Exchanges, with_key}
 
 -- keys with one more

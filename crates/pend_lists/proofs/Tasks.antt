@@ -9,10 +9,10 @@ use Rattle.links.proofs.Chained.{length-le_once}
 use Rattle.links.proofs.Steps.{times-without}
 use Rattle.pend_lists.specs.Pending.{waiters, IsAbsent, AreOnceEach}
 
-without_gone : (x y : ℕ) (xs : List ℕ) → x ≡ y → without y (x ∷ xs) ≡ without y xs
+pub without_gone : (x y : ℕ) (xs : List ℕ) → x ≡ y → without y (x ∷ xs) ≡ without y xs
 without_gone x y xs e = grind arith
 
-without_kept : (x y : ℕ) (xs : List ℕ) → x ≢ y → without y (x ∷ xs) ≡ x ∷ without y xs
+pub without_kept : (x y : ℕ) (xs : List ℕ) → x ≢ y → without y (x ∷ xs) ≡ x ∷ without y xs
 without_kept x y xs ne = grind arith
 
 -- a node joins its task's list at the same place

@@ -5,7 +5,7 @@ use Rattle.std.proofs.Math.Seq.{drop-cons}
 use Rattle.std.proofs.lemmas.Bool.Decides.{eqb_tells}
 use Rattle.std.proofs.lemmas.List.{take-append-drop}
 use Rattle.kern_model.specs.State.{count_of}
-use Rattle.kern_model.proofs.Lists.Counts.{count-append}
+use Rattle.kern_model.proofs.Lemmas.{count-append}
 
 pub count-same : (x y : ℕ) (xs : List ℕ) → y ≡ x → count_of x (y ∷ xs) ≡ 1 + count_of x xs
 count-same x y xs is = elim (eqb_tells y x) [ inl e ↦ ap (λ b. (if b then 1 else 0) + count_of x xs) e.0 | inr e ↦ absurd (e.1 is) ]

@@ -17,8 +17,8 @@ use Rattle.rv32_asm.specs.Assembled.{assembled}
 use Rattle.rv32_asm.specs.Assembly.{Assembly}
 use Rattle.rv32_asm.specs.Assembly as asm
 use Rattle.inject_list.specs.Lists.{ListRecord}
-use Rattle.inject_list.specs.Stage.{Reading, injections_in}
-use Rattle.inject_list.specs.Stage as inject
+use Rattle.inject_list.specs.Reading.{Reading, injections_in}
+use Rattle.inject_list.specs.Reading as inject
 use Rattle.program_model.specs.declared.causes.CaseCause.{CaseCause}
 use Rattle.program_model.specs.declared.causes.CaseCause.TheVariants.{BadByte, NumberTooLarge, OfText, OfImage, OfInjection}
 

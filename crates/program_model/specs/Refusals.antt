@@ -1,8 +1,8 @@
 -- The line that refuses a case.
 use Rattle.std.specs.Prelude.{ℕ, List, ◌++◌, codes, decimal}
 use Rattle.app_image.specs.CauseNumbers as image
-use Rattle.rv32_asm.specs.Refusal as asm
-use Rattle.inject_list.specs.Stage as inject
+use Rattle.asm_causes.specs.Refusal as asm
+use Rattle.inject_list.specs.Reading as inject
 use Rattle.program_model.specs.declared.causes.CaseCause.{CaseCause}
 use Rattle.program_model.specs.declared.causes.CaseCause.TheVariants.{BadByte, NumberTooLarge, OfText, OfImage, OfInjection}
 

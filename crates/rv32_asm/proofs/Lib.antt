@@ -1,10 +1,5 @@
-pub mod NameLaws
-pub mod RowLaws
-pub mod LineLaws
-pub mod LinePlacesLaws
 pub mod TokenCount
-pub mod CauseLaws
-pub mod PlainForms
+pub mod LineByLine
 pub mod MadeSteps
 pub mod MadeCounts
 pub mod MadeWords
@@ -18,6 +13,5 @@ pub mod MadeServices
 pub mod MadeNames
 pub mod Made
 pub mod StepLaws
-pub mod InitialLaws
-pub mod CalmLaws
+pub mod SmallLaws
 mod Worked

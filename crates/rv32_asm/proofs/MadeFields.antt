@@ -3,15 +3,15 @@ use Rattle.std.proofs.Common.{◌≡◌, ℕ, ◌≤◌, List, length, All, arit
 use Rattle.std.proofs.lemmas.List.Elements.{All-nil}
 use Rattle.text_lex.specs.declared.Token.{Token}
 use Rattle.app_image.specs.Raw.{RawRecord, HasZerosUnused}
-use Rattle.rv32_asm.specs.Lines.{read}
-use Rattle.rv32_asm.specs.Names.{Names}
-use Rattle.rv32_asm.specs.Steps.{names_of, no_counts}
-use Rattle.rv32_asm.specs.Operands.{no_place}
-use Rattle.rv32_asm.specs.Steps.{places_of}
+use Rattle.asm_lines.specs.Lines.{read}
+use Rattle.asm_places.specs.Names.{Names}
+use Rattle.asm_places.specs.NameSteps.{names_of, no_counts}
+use Rattle.asm_places.specs.Operands.{no_place}
+use Rattle.asm_causes.specs.PlaceSteps.{places_of}
 use Rattle.rv32_asm.specs.Steps.{assembled_by_steps, empty_image}
 use Rattle.rv32_asm.specs.Assembly.{Gives}
-use Rattle.rv32_asm.specs.declared.places.Counts.{Counts}
-use Rattle.rv32_asm.specs.declared.places.Place.{Place}
+use Rattle.asm_places.specs.Counts.{Counts}
+use Rattle.asm_places.specs.Place.{Place}
 use Rattle.rv32_asm.proofs.MadeSteps.{Keeps, Ends, kept}
 use Rattle.rv32_asm.proofs.MadeCounts.{HasCounts, counts_kept}
 use Rattle.rv32_asm.proofs.MadeSections.{Fills, sections_kept}
@@ -41,11 +41,11 @@ start = record {
 }
 
 -- a line without a cause keeps it
-line_keeps : (text : List ℕ) (tokens : List Token) (names : Names) (places : List Place) → Keeps text tokens names places (λ l. HasZeros l.statement) SoFar
-line_keeps text tokens names places c p raw l free zeros h = record {
-  counts = counts_kept text tokens names places l.statement c p raw l.number free.count h.counts;
-  sections = sections_kept text tokens names places c p raw l free h.sections;
-  unused = unused_kept text tokens names places l.statement p raw l.number zeros h.unused;
+line_keeps : (names : Names) (places : List Place) → Keeps names places (λ l. HasZeros l.statement) SoFar
+line_keeps names places c p raw l free zeros h = record {
+  counts = counts_kept names places l.statement c p raw l.number free.count h.counts;
+  sections = sections_kept names places c p raw l free h.sections;
+  unused = unused_kept names places l.statement p raw l.number zeros h.unused;
 }
 
 limits : (c : Counts) (p : Place) (raw : RawRecord) → SoFar c p raw → MeetsLimits raw
@@ -62,7 +62,7 @@ limits c p raw h = record {
 pub meets_limits : (text : List ℕ) (tokens : List Token) (raw : RawRecord) (used : ℕ) → assembled_by_steps text tokens ≡ Gives raw used → MeetsLimits raw
 meets_limits text tokens raw used given =
     let lines = (read text tokens).lines in
-    let names = names_of text lines in
-    let places = places_of text tokens names lines in
-    let ends : Ends text tokens names places (λ l. HasZeros l.statement) SoFar raw = kept text tokens names places (λ l. HasZeros l.statement) SoFar (line_keeps text tokens names places) lines no_counts no_place empty_image (read text tokens).used raw used (lines_have_zeros text tokens) start given in
+    let names = names_of lines in
+    let places = places_of names lines in
+    let ends : Ends names places (λ l. HasZeros l.statement) SoFar raw = kept names places (λ l. HasZeros l.statement) SoFar (line_keeps names places) lines no_counts no_place empty_image (read text tokens).used raw used (lines_have_zeros text tokens) start given in
     limits ends.0 ends.1 raw ends.2

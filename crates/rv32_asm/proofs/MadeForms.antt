@@ -8,30 +8,22 @@ use Rattle.std.proofs.lemmas.Bool.{and_parts, eqb-true}
 use Rattle.kern_base.specs.declared.kinds.Kind.{Kind}
 use Rattle.text_lex.specs.declared.Token.{Token}
 use Rattle.app_image.specs.Raw.{fields_used}
-use Rattle.rv32_asm.specs.Pieces.{spelling}
-use Rattle.rv32_asm.specs.Tables.{entry}
-use Rattle.rv32_asm.specs.Mnemonics.{heads, head_of}
-use Rattle.rv32_asm.specs.Forms.{task_form, unused, object_form, mutex_form, timer_kinds, timer_kind, callback, timer_of, timer_form, form}
-use Rattle.rv32_asm.specs.Lines.{read}
-use Rattle.rv32_asm.specs.declared.pieces.Span.{Span}
-use Rattle.rv32_asm.specs.declared.pieces.Operand.{Operand}
-use Rattle.rv32_asm.specs.declared.pieces.Operand.TheVariants.{Number, Named}
-use Rattle.rv32_asm.specs.declared.pieces.Piece.{Piece}
-use Rattle.rv32_asm.specs.declared.pieces.Piece.TheVariants.{Is, Comma}
-use Rattle.rv32_asm.specs.declared.mnemonics.Head.{Head}
-use Rattle.rv32_asm.specs.declared.mnemonics.Head.TheVariants as head
-use Rattle.rv32_asm.specs.declared.statements.Statement.{Statement}
-use Rattle.rv32_asm.specs.declared.statements.Statement.TheVariants.{Task, Object}
-use Rattle.rv32_asm.specs.declared.statements.Line.{Line}
-use Rattle.rv32_asm.proofs.PlainForms.{is_declaration, declares}
-use Rattle.rv32_asm.proofs.LineLaws.{read_has}
+use Rattle.asm_lines.specs.Tables.{entry}
+use Rattle.asm_lines.specs.Mnemonics.{heads, head_of}
+use Rattle.asm_lines.specs.Forms.{task_form, space_form, equ_form, unused, object_form, mutex_form, timer_kinds, timer_kind, callback, timer_of, timer_form, form}
+use Rattle.asm_lines.specs.Lines.{read}
+use Rattle.asm_lines.specs.Language.{Operand, Number, Named, Piece, Is, Comma, Statement, Task, Object, Line}
+use Rattle.asm_lines.specs.declared.mnemonics.Head.{Head}
+use Rattle.asm_lines.specs.declared.mnemonics.Head.TheVariants as head
+use Rattle.asm_lines.proofs.PlainForms.{is_special, begins_special}
+use Rattle.asm_lines.proofs.LineLaws.{read_has}
 
 -- the fields that its kind does not use are 0 as the declaration has them
 abbrev pub HasZeros : Statement → Type 0
 HasZeros (Object n kind values) = drop (fields_used kind) values ≡ replicate (4 - fields_used kind) unused
 HasZeros _ = Unit {0}
 
-plain : (s : Statement) → is_declaration s ≡ false → HasZeros s
+plain : (s : Statement) → is_special s ≡ false → HasZeros s
 plain (Task n values) e = tt
 plain (Object n kind values) e = absurd (cc)
 plain s e = tt
@@ -79,30 +71,40 @@ mutex_passes : (ps : List Piece) → IfSome (mutex_form ps) HasZeros
 mutex_passes (Is (Named n) ∷ []) = refl
 mutex_passes _ = tt
 
-four : (kind : Kind) (n : Span) (a b c d : Operand) → (fields_used kind == 4) ≡ true → HasZeros (Object n kind (a ∷ b ∷ c ∷ d ∷ []))
+four : (kind : Kind) (n : List ℕ) (a b c d : Operand) → (fields_used kind == 4) ≡ true → HasZeros (Object n kind (a ∷ b ∷ c ∷ d ∷ []))
 four kind n a b c d e =
     let all : fields_used kind ≡ 4 = eqb-true (fields_used kind) 4 e in
     rw all refl
 
-timer_passes_by : (o : Option Kind) (n : Span) (a b c d : Operand) → IfSome o (λ kind. (fields_used kind == 4) ≡ true) → IfSome (option_map (λ kind. Object n kind (a ∷ b ∷ c ∷ d ∷ [])) o) HasZeros
+timer_passes_by : (o : Option Kind) (n : List ℕ) (a b c d : Operand) → IfSome o (λ kind. (fields_used kind == 4) ≡ true) → IfSome (option_map (λ kind. Object n kind (a ∷ b ∷ c ∷ d ∷ [])) o) HasZeros
 timer_passes_by None n a b c d e = tt
 timer_passes_by (Some kind) n a b c d e = four kind n a b c d e
 
-timer_of_passes : (text : List ℕ) (n : Span) (word delay period call argument : Operand) → IfSome (timer_of text n word delay period call argument) HasZeros
-timer_of_passes text n (Named word) delay period call argument = timer_passes_by (timer_kind (spelling text word)) n delay period (callback text call) argument (timers_pass (spelling text word))
-timer_of_passes text n (Number value) delay period call argument = tt
+space_passes : (ps : List Piece) → IfSome (space_form ps) HasZeros
+space_passes (Is c ∷ []) = tt
+space_passes _ = tt
 
-timer_passes : (text : List ℕ) (ps : List Piece) → IfSome (timer_form text ps) HasZeros
-timer_passes text (Is (Named n) ∷ Comma ∷ Is kind ∷ Comma ∷ Is delay ∷ Comma ∷ Is period ∷ Comma ∷ Is call ∷ Comma ∷ Is argument ∷ []) = timer_of_passes text n kind delay period call argument
-timer_passes text _ = tt
+equ_passes : (ps : List Piece) → IfSome (equ_form ps) HasZeros
+equ_passes (Is (Named n) ∷ Comma ∷ Is (Number value) ∷ []) = tt
+equ_passes _ = tt
 
--- the forms that declare a task or an object
-declared : (text name : List ℕ) (at : ℕ) (h : Head) (ps : List Piece) → head_of name ≡ Some h → declares h ≡ true → IfSome (form text at h ps) HasZeros
-declared text name at head.Task ps e d = task_passes ps
-declared text name at (head.Object kind) ps e d = object_passes kind ps (known_passes (head_of name) (head.Object kind) e (heads_pass name))
-declared text name at head.Mutex ps e d = mutex_passes ps
-declared text name at head.Timer ps e d = timer_passes text ps
-declared text name at h ps e d = absurd (cc)
+timer_of_passes : (n : List ℕ) (word delay period call argument : Operand) → IfSome (timer_of n word delay period call argument) HasZeros
+timer_of_passes n (Named word) delay period call argument = timer_passes_by (timer_kind word) n delay period (callback call) argument (timers_pass word)
+timer_of_passes n (Number value) delay period call argument = tt
+
+timer_passes : (ps : List Piece) → IfSome (timer_form ps) HasZeros
+timer_passes (Is (Named n) ∷ Comma ∷ Is kind ∷ Comma ∷ Is delay ∷ Comma ∷ Is period ∷ Comma ∷ Is call ∷ Comma ∷ Is argument ∷ []) = timer_of_passes n kind delay period call argument
+timer_passes _ = tt
+
+-- the forms of special statements
+special : (name : List ℕ) (h : Head) (ps : List Piece) → head_of name ≡ Some h → begins_special h ≡ true → IfSome (form h ps) HasZeros
+special name head.Task ps e d = task_passes ps
+special name (head.Object kind) ps e d = object_passes kind ps (known_passes (head_of name) (head.Object kind) e (heads_pass name))
+special name head.Mutex ps e d = mutex_passes ps
+special name head.Timer ps e d = timer_passes ps
+special name head.Space ps e d = space_passes ps
+special name head.Equ ps e d = equ_passes ps
+special name h ps e d = absurd (cc)
 
 none_asked : (ts : List Token) → AllByRecursion (λ t. Unit {0}) ts
 none_asked [] = tt
@@ -113,4 +115,4 @@ abbrev pub LinesHaveZeros : List Line → Type 0
 LinesHaveZeros ls = AllByRecursion (λ l. HasZeros l.statement) ls
 
 pub lines_have_zeros : (text : List ℕ) (tokens : List Token) → LinesHaveZeros (read text tokens).lines
-lines_have_zeros text tokens = read_has text HasZeros (λ p. Unit {0}) (λ t. Unit {0}) plain (λ name at h ps e d r. declared text name at h ps e d) (λ t u. tt) tokens (none_asked tokens)
+lines_have_zeros text tokens = read_has text HasZeros (λ p. Unit {0}) (λ t. Unit {0}) plain (λ name h ps e d r. special name h ps e d) (λ t u. tt) tokens (none_asked tokens)

@@ -12,25 +12,22 @@ use Rattle.app_image.specs.Names.{is_service_name, IsFreeName, AreDistinct, name
 use Rattle.app_image.specs.declared.settings.ConfigKey.{ConfigKey}
 use Rattle.app_image.specs.declared.records.TaskDef.{TaskDef}
 use Rattle.app_image.specs.declared.records.ObjDef.{ObjDef}
-use Rattle.rv32_asm.specs.Pieces.{spelling}
-use Rattle.rv32_asm.specs.Lines.{read}
-use Rattle.rv32_asm.specs.Names.{Names}
-use Rattle.rv32_asm.specs.Steps.{names_of, counted, no_counts}
-use Rattle.rv32_asm.specs.Operands.{no_place}
-use Rattle.rv32_asm.specs.Causes.{is_on, is_constant_on, is_statement_of, label_again, name_again, name_in, is_short, has_long_name}
-use Rattle.rv32_asm.specs.Steps.{places_of}
+use Rattle.asm_lines.specs.Lines.{read}
+use Rattle.asm_places.specs.Names.{Names}
+use Rattle.asm_places.specs.NameSteps.{names_of, counted, no_counts}
+use Rattle.asm_places.specs.Operands.{no_place}
+use Rattle.asm_causes.specs.Causes.{is_on, is_constant_on, is_statement_of, label_again, name_again, name_in, is_short, has_long_name}
+use Rattle.asm_causes.specs.PlaceSteps.{places_of}
 use Rattle.rv32_asm.specs.Steps.{with_words, with_setting, with_statement, empty_image, assembled_by_steps}
 use Rattle.rv32_asm.specs.Assembly.{Gives}
-use Rattle.rv32_asm.specs.declared.pieces.Span.{Span}
-use Rattle.rv32_asm.specs.declared.mnemonics.Section.{Section}
-use Rattle.rv32_asm.specs.declared.mnemonics.Section.TheVariants.{Nowhere, Code, Ram}
-use Rattle.rv32_asm.specs.declared.statements.Statement.{Statement}
-use Rattle.rv32_asm.specs.declared.statements.Statement.TheVariants.{Task, Object, Vector, Setting}
-use Rattle.rv32_asm.specs.declared.places.Counts.{Counts}
-use Rattle.rv32_asm.specs.declared.places.Place.{Place}
-use Rattle.rv32_asm.specs.declared.places.Meaning.{Meaning}
-use Rattle.rv32_asm.specs.declared.places.Meaning.TheVariants.{Label, Constant}
-use Rattle.rv32_asm.specs.declared.places.Definition.{Definition}
+use Rattle.asm_lines.specs.Language.{Statement, Task, Object, Vector, Setting}
+use Rattle.asm_lines.specs.declared.mnemonics.Section.{Section}
+use Rattle.asm_lines.specs.declared.mnemonics.Section.TheVariants.{Nowhere, Code, Ram}
+use Rattle.asm_places.specs.Counts.{Counts}
+use Rattle.asm_places.specs.Place.{Place}
+use Rattle.asm_places.specs.declared.places.Meaning.{Meaning}
+use Rattle.asm_places.specs.declared.places.Meaning.TheVariants.{Label, Constant}
+use Rattle.asm_places.specs.declared.places.Definition.{Definition}
 use Rattle.rv32_asm.proofs.MadeSteps.{Keeps, kept}
 use Rattle.rv32_asm.proofs.MadeDistinct.{AreApart, all_with, apart_with, all_weaker, pairs_apart}
 use Rattle.rv32_asm.proofs.MadeServices.{first_line, no_service}
@@ -128,36 +125,35 @@ module _ (names : Names) where
       }
 
   -- the name that a statement declares is new on its line
-  abbrev pub DeclaresNew : List ℕ → ℕ → Statement → Type 0
-  DeclaresNew text lines (Task n values) = IsNew lines (spelling text n)
-  DeclaresNew text lines (Object n kind values) = IsNew lines (spelling text n)
-  DeclaresNew text lines _ = Unit {0}
+  abbrev pub DeclaresNew : ℕ → Statement → Type 0
+  DeclaresNew lines (Task n values) = IsNew lines n
+  DeclaresNew lines (Object n kind values) = IsNew lines n
+  DeclaresNew lines _ = Unit {0}
 
-  module _ (text : List ℕ) (tokens : List Token) (places : List Place) where
+  module _ (places : List Place) where
     -- the names with what a statement declares
-    statement_kept : (line lines : ℕ) (p : Place) (s : Statement) (raw : RawRecord) → DeclaresNew text lines s → AreDeclared lines (image_names raw) → AreDeclared (lines + 1) (image_names (with_statement text tokens names places line p s raw))
+    statement_kept : (line lines : ℕ) (p : Place) (s : Statement) (raw : RawRecord) → DeclaresNew lines s → AreDeclared lines (image_names raw) → AreDeclared (lines + 1) (image_names (with_statement names places line p s raw))
     statement_kept line lines p (Task n values) raw new h =
-        subst (AreDeclared (lines + 1)) (sym (task_more raw _)) (name_more lines (map (λ t. t.name) raw.tasks) (map (λ o. o.name) raw.objects) (spelling text n) new h)
+        subst (AreDeclared (lines + 1)) (sym (task_more raw _)) (name_more lines (map (λ t. t.name) raw.tasks) (map (λ o. o.name) raw.objects) n new h)
     statement_kept line lines p (Object n kind values) raw new h =
         let nil : image_names raw ++ [] ≡ image_names raw = append-nil (image_names raw) in
-        subst (AreDeclared (lines + 1)) (sym (object_more raw _)) (name_more lines (image_names raw) [] (spelling text n) new (subst (AreDeclared lines) (sym nil) h))
+        subst (AreDeclared (lines + 1)) (sym (object_more raw _)) (name_more lines (image_names raw) [] n new (subst (AreDeclared lines) (sym nil) h))
     statement_kept line lines p (Vector values) raw new h = line_more lines (image_names raw) h
     statement_kept line lines p (Setting key v) raw new h = subst (AreDeclared (lines + 1)) (sym (setting_keeps line key _ raw)) (line_more lines (image_names raw) h)
     statement_kept line lines p _ raw new h = subst (AreDeclared (lines + 1)) (sym (words_keep p.section _ raw)) (line_more lines (image_names raw) h)
 
     -- a name that is declared and short, and whose line defines it first
-    new_name : (services : DefinesNoService) (c : Counts) (n : Span) → is_name (spelling text n) ≡ true → not (is_short (spelling text n)) ≡ false → name_again text names c (Some n) ≡ false → IsNew c.lines (spelling text n)
+    new_name : (services : DefinesNoService) (c : Counts) (n : List ℕ) → is_name n ≡ true → not (is_short n) ≡ false → name_again names c (Some n) ≡ false → IsNew c.lines n
     new_name services c n form long again =
-        let name = spelling text n in
-        let short = and_parts (nat_le 1 (length name)) (nat_le (length name) 16) (not-false (is_short name) long) in
-        let line : first_line (names name) ≡ Some c.lines = statement_line c (names name) (not-false (is_statement_of c (names name)) again) in
+        let short = and_parts (nat_le 1 (length n)) (nat_le (length n) 16) (not-false (is_short n) long) in
+        let line : first_line (names n) ≡ Some c.lines = statement_line c (names n) (not-false (is_statement_of c (names n)) again) in
         record {
-          free = record { some = leb-true 1 (length name) short.0; short = leb-true (length name) 16 short.1; form = form; free = services name c.lines line };
+          free = record { some = leb-true 1 (length n) short.0; short = leb-true (length n) 16 short.1; form = form; free = services n c.lines line };
           defined = line;
         }
 
     -- what a statement without a cause declares is new
-    new_declared : (services : DefinesNoService) (c : Counts) (s : Statement) → DeclaresName text s → has_long_name text s ≡ false → name_again text names c (name_in s) ≡ false → DeclaresNew text c.lines s
+    new_declared : (services : DefinesNoService) (c : Counts) (s : Statement) → DeclaresName s → has_long_name s ≡ false → name_again names c (name_in s) ≡ false → DeclaresNew c.lines s
     new_declared services c (Task n values) form long again = new_name services c n form long again
     new_declared services c (Object n kind values) form long again = new_name services c n form long again
     new_declared services c _ form long again = tt
@@ -167,12 +163,12 @@ module _ (names : Names) where
     HasNames c p raw = AreDeclared c.lines (image_names raw)
 
     -- a line without a cause keeps the names free and distinct
-    line_kept : DefinesNoService → Keeps text tokens names places (λ l. DeclaresName text l.statement) HasNames
+    line_kept : DefinesNoService → Keeps names places (λ l. DeclaresName l.statement) HasNames
     line_kept services c p raw l free form h =
-        let twice = or_parts (label_again text names c l.label) (name_again text names c (name_in l.statement)) free.twice in
+        let twice = or_parts (label_again names c l.label) (name_again names c (name_in l.statement)) free.twice in
         let new = new_declared services c l.statement form free.name twice.1 in
         let lines : c.lines + 1 ≡ (counted l.statement c).lines = sym (lines_counted l.statement c) in
-        subst (λ k. AreDeclared k (image_names (with_statement text tokens names places l.number p l.statement raw))) lines (statement_kept l.number c.lines p l.statement raw new h)
+        subst (λ k. AreDeclared k (image_names (with_statement names places l.number p l.statement raw))) lines (statement_kept l.number c.lines p l.statement raw new h)
 
 -- what is known of the names of an assembled image
 pub record HasFreeNames (raw : RawRecord) : Type 0 where
@@ -189,8 +185,8 @@ has_free_names names raw lines h = record {
 pub made_names : (text : List ℕ) (tokens : List Token) (raw : RawRecord) (used : ℕ) → lexed text ≡ Tokens tokens → assembled_by_steps text tokens ≡ Gives raw used → HasFreeNames raw
 made_names text tokens raw used e h =
     let reading = read text tokens in
-    let names = names_of text reading.lines in
-    let places = places_of text tokens names reading.lines in
+    let names = names_of reading.lines in
+    let places = places_of names reading.lines in
     let none : AreDeclared names 0 (image_names empty_image) = record { each = tt; apart = tt } in
-    let given = kept text tokens names places (λ l. DeclaresName text l.statement) (HasNames names text tokens places) (line_kept names text tokens places (no_service text reading.lines)) reading.lines no_counts no_place empty_image reading.used raw used (declare_names text tokens e) none h in
+    let given = kept names places (λ l. DeclaresName l.statement) (HasNames names places) (line_kept names places (no_service reading.lines)) reading.lines no_counts no_place empty_image reading.used raw used (declare_names text tokens e) none h in
     has_free_names names raw given.0.lines given.2

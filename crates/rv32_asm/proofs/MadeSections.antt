@@ -2,25 +2,22 @@
 use Rattle.std.proofs.Common.{◌≡◌, ℕ, ◌+◌, ◌*◌, ◌≤◌, List, ◌++◌, length, nat_lt, false, ◌&&◌, arith, length-append, refl, sym, ◌∙◌}
 use Rattle.std.specs.Prelude.{Option, Some, None}
 use Rattle.std.proofs.lemmas.Bool.Decides.{nat_tests}
-use Rattle.text_lex.specs.declared.Token.{Token}
 use Rattle.app_image.specs.Raw.{RawRecord}
 use Rattle.app_image.specs.declared.settings.ConfigKey.{ConfigKey}
-use Rattle.rv32_asm.specs.Names.{Names}
-use Rattle.rv32_asm.specs.Causes.{has_constant_out_of_range, has_undefined, has_wrong_kind, is_early}
-use Rattle.rv32_asm.specs.Places.{size_of, bytes_of}
-use Rattle.rv32_asm.specs.Steps.{filled, turned, place_after}
-use Rattle.rv32_asm.specs.Refusal.{overfills_code, overfills_ram}
+use Rattle.asm_places.specs.Names.{Names}
+use Rattle.asm_causes.specs.Causes.{has_constant_out_of_range, has_undefined, has_wrong_kind, is_early}
+use Rattle.asm_causes.specs.Places.{size_of, bytes_of}
+use Rattle.asm_causes.specs.PlaceSteps.{filled, turned, place_after}
+use Rattle.asm_causes.specs.Refusal.{overfills_code, overfills_ram}
 use Rattle.rv32_asm.specs.Instructions.{words}
-use Rattle.rv32_asm.specs.Operands.{value_of}
+use Rattle.asm_places.specs.Operands.{value_of}
 use Rattle.rv32_asm.specs.Steps.{with_words, with_setting, with_statement}
-use Rattle.rv32_asm.specs.declared.mnemonics.Section.{Section}
-use Rattle.rv32_asm.specs.declared.mnemonics.Section.TheVariants.{Nowhere, Code, Ram}
-use Rattle.rv32_asm.specs.declared.statements.Statement.{Statement}
-use Rattle.rv32_asm.specs.declared.statements.Statement.TheVariants.{Section as Sections, Task, Object, Vector, Setting}
-use Rattle.rv32_asm.specs.declared.statements.Line.{Line}
-use Rattle.rv32_asm.specs.declared.places.Counts.{Counts}
-use Rattle.rv32_asm.specs.declared.places.Place.{Place}
-use Rattle.rv32_asm.proofs.CauseLaws.{IsFree}
+use Rattle.asm_lines.specs.declared.mnemonics.Section.{Section}
+use Rattle.asm_lines.specs.declared.mnemonics.Section.TheVariants.{Nowhere, Code, Ram}
+use Rattle.asm_lines.specs.Language.{Statement, Sections, Task, Object, Vector, Setting, Line}
+use Rattle.asm_places.specs.Counts.{Counts}
+use Rattle.asm_places.specs.Place.{Place}
+use Rattle.asm_causes.proofs.CauseLaws.{IsFree}
 use Rattle.rv32_asm.proofs.MadeWords.{words_fill}
 
 -- so many bytes of each, and no more than there may be
@@ -59,23 +56,23 @@ turned_fills : (s : Statement) (p : Place) (raw : RawRecord) → Fills p raw →
 turned_fills (Sections section) p raw h = h
 turned_fills s p raw h = h
 
-module _ (text : List ℕ) (tokens : List Token) (names : Names) (places : List Place) where
-  statement_fills : (s : Statement) (p : Place) (raw : RawRecord) (line size : ℕ) → size ≡ size_of text tokens names s → has_constant_out_of_range text names s ≡ false → has_undefined text tokens names s ≡ false → has_wrong_kind text names s ≡ false → overfills_code p p.section size ≡ false → overfills_ram p p.section size ≡ false → Fills p raw → Fills (filled p.section size p) (with_statement text tokens names places line p s raw)
+module _ (names : Names) (places : List Place) where
+  statement_fills : (s : Statement) (p : Place) (raw : RawRecord) (line size : ℕ) → size ≡ size_of names s → has_constant_out_of_range names s ≡ false → has_undefined names s ≡ false → has_wrong_kind names s ≡ false → overfills_code p p.section size ≡ false → overfills_ram p p.section size ≡ false → Fills p raw → Fills (filled p.section size p) (with_statement names places line p s raw)
   statement_fills (Task n values) p raw line size e range undefined kind over_code over_ram h = none_fill p raw p.section size e h
   statement_fills (Object n k values) p raw line size e range undefined kind over_code over_ram h = none_fill p raw p.section size e h
   statement_fills (Vector values) p raw line size e range undefined kind over_code over_ram h = none_fill p raw p.section size e h
   statement_fills (Setting key v) p raw line size e range undefined kind over_code over_ram h =
-      setting_fills (filled p.section size p) raw line key (value_of text names places v) (none_fill p raw p.section size e h)
+      setting_fills (filled p.section size p) raw line key (value_of names places v) (none_fill p raw p.section size e h)
   statement_fills s p raw line size e range undefined kind over_code over_ram h =
-      words_fill_section p raw p.section size (words text tokens names places p s) (words_fill text tokens names places p s range undefined kind ∙ sym e) over_code over_ram h
+      words_fill_section p raw p.section size (words names places p s) (words_fill names places p s range undefined kind ∙ sym e) over_code over_ram h
 
   -- a line without a cause gives all its bytes
-  bytes_of-free : (c : Counts) (p : Place) (l : Line) → is_early text tokens names c p.section l ≡ false → bytes_of text tokens names c p.section l ≡ size_of text tokens names l.statement
+  bytes_of-free : (c : Counts) (p : Place) (l : Line) → is_early names c p.section l ≡ false → bytes_of names c p.section l ≡ size_of names l.statement
   bytes_of-free c p l e = rw (e, bytes_of) refl
 
   -- a line more
-  pub sections_kept : (c : Counts) (p : Place) (raw : RawRecord) (l : Line) → IsFree text tokens names places c p l → Fills p raw → Fills (place_after text tokens names c p l) (with_statement text tokens names places l.number p l.statement raw)
+  pub sections_kept : (c : Counts) (p : Place) (raw : RawRecord) (l : Line) → IsFree names places c p l → Fills p raw → Fills (place_after names c p l) (with_statement names places l.number p l.statement raw)
   sections_kept c p raw l free h =
-      let size : bytes_of text tokens names c p.section l ≡ size_of text tokens names l.statement = bytes_of-free c p l free.early in
-      turned_fills l.statement (filled p.section (bytes_of text tokens names c p.section l) p) (with_statement text tokens names places l.number p l.statement raw)
-      (statement_fills l.statement p raw l.number (bytes_of text tokens names c p.section l) size free.constant free.undefined free.kind free.code free.ram h)
+      let size : bytes_of names c p.section l ≡ size_of names l.statement = bytes_of-free c p l free.early in
+      turned_fills l.statement (filled p.section (bytes_of names c p.section l) p) (with_statement names places l.number p l.statement raw)
+      (statement_fills l.statement p raw l.number (bytes_of names c p.section l) size free.constant free.undefined free.kind free.code free.ram h)

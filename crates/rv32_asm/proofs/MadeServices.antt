@@ -5,10 +5,10 @@ use Rattle.std.specs.Str.{bytes_eq}
 use Rattle.std.proofs.lemmas.Slice.Eq.{bytes_eq-Decides}
 use Rattle.kern_base.specs.Services.{service_name, service_of}
 use Rattle.app_image.specs.Names.{names_service, is_service_name}
-use Rattle.rv32_asm.specs.Names.{Defined, first_of, services_defined, defined_at_start}
-use Rattle.rv32_asm.specs.Steps.{names_of, all_defined, no_counts}
-use Rattle.rv32_asm.specs.declared.statements.Line.{Line}
-use Rattle.rv32_asm.specs.declared.places.Definition.{Definition}
+use Rattle.asm_places.specs.Names.{Defined, first_of, services_defined, defined_at_start}
+use Rattle.asm_places.specs.NameSteps.{names_of, all_defined, no_counts}
+use Rattle.asm_lines.specs.Language.{Line}
+use Rattle.asm_places.specs.declared.places.Definition.{Definition}
 
 -- the line of a definition, by how many lines stand before it
 abbrev pub first_line : Option Definition → Option ℕ
@@ -42,7 +42,7 @@ no_service_by : (name : List ℕ) (o : Option ℕ) (line : ℕ) (b : Bool) → o
 no_service_by name o line true e h = let none : o ≡ None = h refl in absurd cc
 no_service_by name o line false e h = refl
 
-pub no_service : (text : List ℕ) (lines : List Line) (name : List ℕ) (line : ℕ) → first_line (names_of text lines name) ≡ Some line → is_service_name name ≡ false
+pub no_service : (lines : List Line) (name : List ℕ) (line : ℕ) → first_line (names_of lines name) ≡ Some line → is_service_name name ≡ false
 unfolding is_service_name defined_at_start
-no_service text lines name line e =
-    no_service_by name (first_line (names_of text lines name)) line (names_service 39 name) e (service_first 39 name (all_defined text no_counts lines))
+no_service lines name line e =
+    no_service_by name (first_line (names_of lines name)) line (names_service 39 name) e (service_first 39 name (all_defined no_counts lines))

@@ -3,22 +3,18 @@ use Rattle.std.proofs.Common.{◌≡◌, ℕ, zero, suc, ◌-◌, List, ◌∷�
 use Rattle.std.specs.Prelude.{Option, Some, None}
 use Rattle.std.proofs.lemmas.List.{drop-map}
 use Rattle.std.proofs.lemmas.List.Elements.{All-push}
-use Rattle.text_lex.specs.declared.Token.{Token}
 use Rattle.app_image.specs.Raw.{RawRecord, fields_used, HasZerosUnused}
 use Rattle.app_image.specs.declared.settings.ConfigKey.{ConfigKey}
-use Rattle.rv32_asm.specs.Pieces.{spelling}
-use Rattle.rv32_asm.specs.Forms.{unused}
-use Rattle.rv32_asm.specs.Names.{Names}
-use Rattle.rv32_asm.specs.Operands.{value_of}
+use Rattle.asm_lines.specs.Forms.{unused}
+use Rattle.asm_places.specs.Names.{Names}
+use Rattle.asm_places.specs.Operands.{value_of}
 use Rattle.rv32_asm.specs.Instructions.{words}
 use Rattle.rv32_asm.specs.Assembled.{word_values}
 use Rattle.rv32_asm.specs.Steps.{with_words, with_setting, with_statement}
-use Rattle.rv32_asm.specs.declared.pieces.Operand.{Operand}
-use Rattle.rv32_asm.specs.declared.mnemonics.Section.{Section}
-use Rattle.rv32_asm.specs.declared.mnemonics.Section.TheVariants.{Nowhere, Code, Ram}
-use Rattle.rv32_asm.specs.declared.statements.Statement.{Statement}
-use Rattle.rv32_asm.specs.declared.statements.Statement.TheVariants.{Task, Object, Vector, Setting}
-use Rattle.rv32_asm.specs.declared.places.Place.{Place}
+use Rattle.asm_lines.specs.Language.{Operand, Statement, Task, Object, Vector, Setting}
+use Rattle.asm_lines.specs.declared.mnemonics.Section.{Section}
+use Rattle.asm_lines.specs.declared.mnemonics.Section.TheVariants.{Nowhere, Code, Ram}
+use Rattle.asm_places.specs.Place.{Place}
 use Rattle.rv32_asm.proofs.MadeForms.{HasZeros}
 
 map_replicate : {X Y : Type 0} (f : X → Y) (n : ℕ) (x : X) → map f (replicate n x) ≡ replicate n (f x)
@@ -38,13 +34,13 @@ setting_same : (raw : RawRecord) (line : ℕ) (key : Option ConfigKey) (value : 
 setting_same raw line None value h = h
 setting_same raw line (Some key) value h = h
 
-module _ (text : List ℕ) (tokens : List Token) (names : Names) (places : List Place) where
+module _ (names : Names) (places : List Place) where
   -- a statement more
-  pub unused_kept : (s : Statement) (p : Place) (raw : RawRecord) (line : ℕ) → HasZeros s → All HasZerosUnused raw.objects → All HasZerosUnused (with_statement text tokens names places line p s raw).objects
+  pub unused_kept : (s : Statement) (p : Place) (raw : RawRecord) (line : ℕ) → HasZeros s → All HasZerosUnused raw.objects → All HasZerosUnused (with_statement names places line p s raw).objects
   unused_kept (Task n values) p raw line zeros h = h
   unused_kept (Object n kind values) p raw line zeros h =
-      All-push HasZerosUnused raw.objects (record { name = spelling text n; kind = kind; f = word_values text tokens names places values; line = line }) h
-      (zeros_of (value_of text names places) (fields_used kind) values refl zeros)
+      All-push HasZerosUnused raw.objects (record { name = n; kind = kind; f = word_values names places values; line = line }) h
+      (zeros_of (value_of names places) (fields_used kind) values refl zeros)
   unused_kept (Vector values) p raw line zeros h = h
-  unused_kept (Setting key v) p raw line zeros h = setting_same raw line key (value_of text names places v) h
-  unused_kept s p raw line zeros h = words_same raw p.section (words text tokens names places p s) h
+  unused_kept (Setting key v) p raw line zeros h = setting_same raw line key (value_of names places v) h
+  unused_kept s p raw line zeros h = words_same raw p.section (words names places p s) h

@@ -3,21 +3,16 @@ use Rattle.std.proofs.Common.{◌≡◌, ℕ, ◌*◌, ◌/◌, ◌%◌, ◌==�
 use Rattle.std.specs.Prelude.{Option, Some, None, is_none, unwrap_or, if◌then◌else◌}
 use Rattle.std.proofs.lemmas.Bool.{or_parts, eqb-true, not-false}
 use Rattle.std.proofs.lemmas.List.{length-map, length-replicate}
-use Rattle.text_lex.specs.declared.Token.{Token}
 use Rattle.rv32_isa.specs.Listing.{encoded}
-use Rattle.rv32_asm.specs.Pieces.{spelling}
-use Rattle.rv32_asm.specs.Names.{Names, meaning}
-use Rattle.rv32_asm.specs.Operands.{listed, constant_of, number_of, value_of, fits_low}
-use Rattle.rv32_asm.specs.Causes.{is_out_of_range, has_constant_out_of_range, stands_for_nothing, is_label_operand, has_undefined, has_wrong_kind, is_label}
-use Rattle.rv32_asm.specs.Places.{space_size, load_size, size_of}
+use Rattle.asm_places.specs.Names.{Names, meaning}
+use Rattle.asm_places.specs.Operands.{constant_of, number_of, value_of, fits_low}
+use Rattle.asm_causes.specs.Causes.{is_out_of_range, has_constant_out_of_range, stands_for_nothing, is_label_operand, has_undefined, has_wrong_kind, is_label}
+use Rattle.asm_causes.specs.Places.{space_size, load_size, size_of}
 use Rattle.rv32_asm.specs.Instructions.{load_constant, register_of, words}
-use Rattle.rv32_asm.specs.declared.pieces.Operand.{Operand}
-use Rattle.rv32_asm.specs.declared.pieces.Operand.TheVariants.{Number, Named}
-use Rattle.rv32_asm.specs.declared.statements.Statement.{Statement}
-use Rattle.rv32_asm.specs.declared.statements.Statement.TheVariants.{Words, Space, LoadConstant}
-use Rattle.rv32_asm.specs.declared.places.Place.{Place}
-use Rattle.rv32_asm.specs.declared.places.Meaning.{Meaning}
-use Rattle.rv32_asm.specs.declared.places.Meaning.TheVariants.{Label, Constant}
+use Rattle.asm_lines.specs.Language.{Operand, Number, Named, Statement, Words, Space, LoadConstant}
+use Rattle.asm_places.specs.Place.{Place}
+use Rattle.asm_places.specs.declared.places.Meaning.{Meaning}
+use Rattle.asm_places.specs.declared.places.Meaning.TheVariants.{Label, Constant}
 
 -- the zeros of `.space`
 space_words : (c : Operand) (o : Option ℤ) → is_out_of_range (Space c) o ≡ false → 4 * length {A = ℕ} (replicate (space_size o / 4) 0) ≡ space_size o
@@ -43,18 +38,18 @@ number_known (Some (Label line)) e f = absurd (cc)
 number_known (Some (Constant value)) e f = (value, refl)
 
 -- an operand that stands for something and for no label
-constant_known : (text : List ℕ) (names : Names) (o : Operand) → stands_for_nothing text names o ≡ false → is_label_operand text names o ≡ false → (value : ℤ) × (constant_of text names o ≡ Some value)
-constant_known text names (Number value) e f = (value, refl)
-constant_known text names (Named s) e f = number_known (meaning names (spelling text s)) e f
+constant_known : (names : Names) (o : Operand) → stands_for_nothing names o ≡ false → is_label_operand names o ≡ false → (value : ℤ) × (constant_of names o ≡ Some value)
+constant_known names (Number value) e f = (value, refl)
+constant_known names (Named s) e f = number_known (meaning names s) e f
 
-module _ (text : List ℕ) (tokens : List Token) (names : Names) (places : List Place) (from : Place) where
+module _ (names : Names) (places : List Place) (from : Place) where
   -- the words of a statement fill its bytes
-  pub words_fill : (s : Statement) → has_constant_out_of_range text names s ≡ false → has_undefined text tokens names s ≡ false → has_wrong_kind text names s ≡ false → 4 * length (words text tokens names places from s) ≡ size_of text tokens names s
-  words_fill (Words at count) e u k = ap (λ (n : ℕ). 4 * n) (length-map (listed tokens at count) (value_of text names places))
-  words_fill (Space c) e u k = space_words c (constant_of text names c) e
+  pub words_fill : (s : Statement) → has_constant_out_of_range names s ≡ false → has_undefined names s ≡ false → has_wrong_kind names s ≡ false → 4 * length (words names places from s) ≡ size_of names s
+  words_fill (Words values) e u k = ap (λ (n : ℕ). 4 * n) (length-map values (value_of names places))
+  words_fill (Space c) e u k = space_words c (constant_of names c) e
   words_fill (LoadConstant d c) e u k =
-      let something = (or_parts (stands_for_nothing text names c) _ u).0 in
-      let no_label = (or_parts (is_label_operand text names c) _ k).0 in
-      let known = constant_known text names c something no_label in
-      load_known (register_of d) (constant_of text names c) known.0 known.1
+      let something = (or_parts (stands_for_nothing names c) _ u).0 in
+      let no_label = (or_parts (is_label_operand names c) _ k).0 in
+      let known = constant_known names c something no_label in
+      load_known (register_of d) (constant_of names c) known.0 known.1
   words_fill s e u k = refl

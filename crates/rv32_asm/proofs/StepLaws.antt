@@ -13,24 +13,24 @@ use Rattle.app_image.specs.declared.records.TaskDef.{TaskDef}
 use Rattle.app_image.specs.declared.records.ObjDef.{ObjDef}
 use Rattle.app_image.specs.declared.records.VectorDef.{VectorDef}
 use Rattle.app_image.specs.declared.settings.ConfigLine.{ConfigLine}
-use Rattle.rv32_asm.specs.Lines.{Reading, read}
+use Rattle.asm_lines.specs.Lines.{Reading, read}
 use Rattle.rv32_asm.specs.Before.{no_line, line_at, is_task, is_object, is_vector, count_of, counts_before, section_of, last_of, section_before}
-use Rattle.rv32_asm.specs.Names.{Names, defined_at_start, defines, first_of}
-use Rattle.rv32_asm.specs.Operands.{no_place}
+use Rattle.asm_places.specs.Names.{Names, defined_at_start, defines, first_of}
+use Rattle.asm_places.specs.Operands.{no_place}
 use Rattle.rv32_asm.specs.Instructions.{words}
-use Rattle.rv32_asm.specs.Refusal.{cause_of}
+use Rattle.asm_causes.specs.Refusal.{cause_of}
 use Rattle.rv32_asm.specs.Assembly.{Gives}
 use Rattle.rv32_asm.specs.Assembled.{numbers, all_names, is_in, bytes_at, bytes_to, place_before, all_places, tasks_given, objects_given, vectors_given, settings_given, words_given, image_of_first, refusal_at, unless_refused, lines_assembled, assembled}
-use Rattle.rv32_asm.specs.Steps.{no_counts, counted, all_defined, names_of, filled, turned, place_after, places_from, places_of, with_words, with_statement, empty_image, assembled_from, assembled_lines, assembled_by_steps}
-use Rattle.rv32_asm.proofs.CauseLaws.{assembled_from-free, assembled_from-refused}
-use Rattle.rv32_asm.specs.declared.mnemonics.Section.{Section}
-use Rattle.rv32_asm.specs.declared.mnemonics.Section.TheVariants.{Nowhere, Code, Ram}
-use Rattle.rv32_asm.specs.declared.statements.Statement.{Statement}
-use Rattle.rv32_asm.specs.declared.statements.Statement.TheVariants.{Section as Sections, Task, Object, Vector, Setting}
-use Rattle.rv32_asm.specs.declared.statements.Line.{Line}
-use Rattle.rv32_asm.specs.declared.places.Counts.{Counts}
-use Rattle.rv32_asm.specs.declared.places.Place.{Place}
-use Rattle.rv32_asm.specs.declared.causes.AsmCause.{AsmCause}
+use Rattle.asm_places.specs.NameSteps.{no_counts, counted, all_defined, names_of}
+use Rattle.asm_causes.specs.PlaceSteps.{filled, turned, place_after, places_from, places_of}
+use Rattle.rv32_asm.specs.Steps.{with_words, with_statement, empty_image, assembled_from, assembled_lines, assembled_by_steps}
+use Rattle.rv32_asm.proofs.LineByLine.{assembled_from-free, assembled_from-refused}
+use Rattle.asm_lines.specs.declared.mnemonics.Section.{Section}
+use Rattle.asm_lines.specs.declared.mnemonics.Section.TheVariants.{Nowhere, Code, Ram}
+use Rattle.asm_lines.specs.Language.{Statement, Sections, Task, Object, Vector, Setting, Line}
+use Rattle.asm_places.specs.Counts.{Counts}
+use Rattle.asm_places.specs.Place.{Place}
+use Rattle.asm_causes.specs.declared.causes.AsmCause.{AsmCause}
 
 -- one more number at the end
 range_more : (n : ℕ) → range_with_len 0 (n + 1) ≡ range_with_len 0 n ++ n ∷ []
@@ -139,19 +139,19 @@ words_only Nowhere ws raw = same_raw _ _ _ _ _ _ _ _ _ _ _ _ (none raw.tasks) (n
 words_only Code ws raw = same_raw _ _ _ _ _ _ _ _ _ _ _ _ (none raw.tasks) (none raw.objects) (none raw.vectors) (none raw.config) refl (none raw.ram)
 words_only Ram ws raw = same_raw _ _ _ _ _ _ _ _ _ _ _ _ (none raw.tasks) (none raw.objects) (none raw.vectors) (none raw.config) (none raw.code) refl
 
-module _ (text : List ℕ) (tokens : List Token) (names : Names) (places : List Place) where
+module _ (names : Names) (places : List Place) where
   -- what a statement adds to an image
   abbrev added : ℕ → Place → Statement → RawRecord → RawRecord
   added line p s raw = record {
-    tasks = raw.tasks ++ tasks_given text tokens names places line s;
-    objects = raw.objects ++ objects_given text tokens names places line s;
-    vectors = raw.vectors ++ vectors_given text tokens names places line s;
-    config = raw.config ++ settings_given text tokens names places line s;
-    code = raw.code ++ words_given text tokens names places Code p s;
-    ram = raw.ram ++ words_given text tokens names places Ram p s;
+    tasks = raw.tasks ++ tasks_given names places line s;
+    objects = raw.objects ++ objects_given names places line s;
+    vectors = raw.vectors ++ vectors_given names places line s;
+    config = raw.config ++ settings_given names places line s;
+    code = raw.code ++ words_given names places Code p s;
+    ram = raw.ram ++ words_given names places Ram p s;
   }
 
-  added_by : (line : ℕ) (p : Place) (s : Statement) (raw : RawRecord) → with_statement text tokens names places line p s raw ≡ added line p s raw
+  added_by : (line : ℕ) (p : Place) (s : Statement) (raw : RawRecord) → with_statement names places line p s raw ≡ added line p s raw
   added_by line p (Task n values) raw =
       same_raw _ _ _ _ _ _ _ _ _ _ _ _ refl (none raw.objects) (none raw.vectors) (none raw.config) (no_words raw.code (is_in Code p.section)) (no_words raw.ram (is_in Ram p.section))
   added_by line p (Object n kind values) raw =
@@ -162,103 +162,103 @@ module _ (text : List ℕ) (tokens : List Token) (names : Names) (places : List 
       same_raw _ _ _ _ _ _ _ _ _ _ _ _ (none raw.tasks) (none raw.objects) (none raw.vectors) (none raw.config) (no_words raw.code (is_in Code p.section)) (no_words raw.ram (is_in Ram p.section))
   added_by line p (Setting (Some key) v) raw =
       same_raw _ _ _ _ _ _ _ _ _ _ _ _ (none raw.tasks) (none raw.objects) (none raw.vectors) refl (no_words raw.code (is_in Code p.section)) (no_words raw.ram (is_in Ram p.section))
-  added_by line p s raw = words_only p.section (words text tokens names places p s) raw
+  added_by line p s raw = words_only p.section (words names places p s) raw
 
-module _ (text : List ℕ) (lines : List Line) where
+module _ (lines : List Line) where
   -- the names, a line after the other
-  names_from : (m k : ℕ) → k + m ≡ length lines → all_defined text (counts_before lines k) (drop k lines) ≡ flat_map (λ j. defines text (counts_before lines j) (line_at lines j)) (range_with_len k m)
-  names_from zero k e = ap (all_defined text (counts_before lines k)) (drop_all k lines (omega (arith, e)))
+  names_from : (m k : ℕ) → k + m ≡ length lines → all_defined (counts_before lines k) (drop k lines) ≡ flat_map (λ j. defines (counts_before lines j) (line_at lines j)) (range_with_len k m)
+  names_from zero k e = ap (all_defined (counts_before lines k)) (drop_all k lines (omega (arith, e)))
   names_from (suc m) k e =
       let here = line_at lines k in
       let inside : k < length lines = omega (arith, e) in
-      ap (all_defined text (counts_before lines k)) (drop_more lines k no_line inside)
-      ∙ (ap (λ c. defines text (counts_before lines k) here ++ all_defined text c (drop (k + 1) lines)) (counts_more lines k inside)
-      ∙ ap (λ l. defines text (counts_before lines k) here ++ l) (names_from m (k + 1) (omega (arith, e))))
+      ap (all_defined (counts_before lines k)) (drop_more lines k no_line inside)
+      ∙ (ap (λ c. defines (counts_before lines k) here ++ all_defined c (drop (k + 1) lines)) (counts_more lines k inside)
+      ∙ ap (λ l. defines (counts_before lines k) here ++ l) (names_from m (k + 1) (omega (arith, e))))
 
-  same_names : names_of text lines ≡ all_names text lines
+  same_names : names_of lines ≡ all_names lines
   same_names = ap (λ l. first_of (defined_at_start ++ l)) (names_from (length lines) 0 (omega arith))
 
-  module _ (tokens : List Token) (names : Names) where
-    place_more : (k : ℕ) → k < length lines → place_after text tokens names (counts_before lines k) (place_before text tokens names lines k) (line_at lines k) ≡ place_before text tokens names lines (k + 1)
+  module _ (names : Names) where
+    place_more : (k : ℕ) → k < length lines → place_after names (counts_before lines k) (place_before names lines k) (line_at lines k) ≡ place_before names lines (k + 1)
     place_more k h =
         let s = (line_at lines k).statement in
         let section = section_before lines k in
-        let size = bytes_at text tokens names lines k in
-        let p = place_before text tokens names lines k in
+        let size = bytes_at names lines k in
+        let p = place_before names lines k in
         ap (turned s) (filled_by section size p.code p.ram)
         ∙ (turned_by s section (p.code + (if is_in Code section then size else 0)) (p.ram + (if is_in Ram section then size else 0))
-        ∙ sym (same_place (section_before lines (k + 1)) _ _ _ _ _ (section_more lines k h) (sum_more (bytes_to text tokens names lines Code) k) (sum_more (bytes_to text tokens names lines Ram) k)))
+        ∙ sym (same_place (section_before lines (k + 1)) _ _ _ _ _ (section_more lines k h) (sum_more (bytes_to names lines Code) k) (sum_more (bytes_to names lines Ram) k)))
 
     places_step : (m k : ℕ) → k + m ≡ length lines
-        → places_from text tokens names (counts_before lines k) (place_before text tokens names lines k) (drop k lines) ≡ map (place_before text tokens names lines) (range_with_len k m)
-    places_step zero k e = ap (places_from text tokens names (counts_before lines k) (place_before text tokens names lines k)) (drop_all k lines (omega (arith, e)))
+        → places_from names (counts_before lines k) (place_before names lines k) (drop k lines) ≡ map (place_before names lines) (range_with_len k m)
+    places_step zero k e = ap (places_from names (counts_before lines k) (place_before names lines k)) (drop_all k lines (omega (arith, e)))
     places_step (suc m) k e =
-        let p = place_before text tokens names lines k in
+        let p = place_before names lines k in
         let inside : k < length lines = omega (arith, e) in
-        ap (places_from text tokens names (counts_before lines k) p) (drop_more lines k no_line inside)
-        ∙ (ap (λ c. p ∷ places_from text tokens names c (place_after text tokens names (counts_before lines k) p (line_at lines k)) (drop (k + 1) lines)) (counts_more lines k inside)
-        ∙ (ap (λ q. p ∷ places_from text tokens names (counts_before lines (k + 1)) q (drop (k + 1) lines)) (place_more k inside)
+        ap (places_from names (counts_before lines k) p) (drop_more lines k no_line inside)
+        ∙ (ap (λ c. p ∷ places_from names c (place_after names (counts_before lines k) p (line_at lines k)) (drop (k + 1) lines)) (counts_more lines k inside)
+        ∙ (ap (λ q. p ∷ places_from names (counts_before lines (k + 1)) q (drop (k + 1) lines)) (place_more k inside)
         ∙ ap (λ l. p ∷ l) (places_step m (k + 1) (omega (arith, e)))))
 
-    same_places : places_of text tokens names lines ≡ all_places text tokens names lines
+    same_places : places_of names lines ≡ all_places names lines
     same_places = places_step (length lines) 0 (omega arith)
 
-    image_more : (k : ℕ) → with_statement text tokens names (all_places text tokens names lines) (line_at lines k).number (place_before text tokens names lines k) (line_at lines k).statement (image_of_first text tokens names lines k)
-        ≡ image_of_first text tokens names lines (k + 1)
+    image_more : (k : ℕ) → with_statement names (all_places names lines) (line_at lines k).number (place_before names lines k) (line_at lines k).statement (image_of_first names lines k)
+        ≡ image_of_first names lines (k + 1)
     image_more k =
-        let places = all_places text tokens names lines in
+        let places = all_places names lines in
         let at : ℕ → Line = line_at lines in
-        let p : ℕ → Place = place_before text tokens names lines in
-        added_by text tokens names places (at k).number (p k) (at k).statement (image_of_first text tokens names lines k)
-        ∙ sym (same_raw _ _ _ _ _ _ _ _ _ _ _ _ (flat_more (λ j. tasks_given text tokens names places (at j).number (at j).statement) k)
-        (flat_more (λ j. objects_given text tokens names places (at j).number (at j).statement) k)
-        (flat_more (λ j. vectors_given text tokens names places (at j).number (at j).statement) k)
-        (flat_more (λ j. settings_given text tokens names places (at j).number (at j).statement) k)
-        (flat_more (λ j. words_given text tokens names places Code (p j) (at j).statement) k)
-        (flat_more (λ j. words_given text tokens names places Ram (p j) (at j).statement) k))
+        let p : ℕ → Place = place_before names lines in
+        added_by names places (at k).number (p k) (at k).statement (image_of_first names lines k)
+        ∙ sym (same_raw _ _ _ _ _ _ _ _ _ _ _ _ (flat_more (λ j. tasks_given names places (at j).number (at j).statement) k)
+        (flat_more (λ j. objects_given names places (at j).number (at j).statement) k)
+        (flat_more (λ j. vectors_given names places (at j).number (at j).statement) k)
+        (flat_more (λ j. settings_given names places (at j).number (at j).statement) k)
+        (flat_more (λ j. words_given names places Code (p j) (at j).statement) k)
+        (flat_more (λ j. words_given names places Ram (p j) (at j).statement) k))
 
     -- what a line's cause makes of it and of the lines behind it
-    by_cause : (used m k : ℕ) (o : Option AsmCause) → cause_of text tokens names (all_places text tokens names lines) (counts_before lines k) (place_before text tokens names lines k) (line_at lines k) ≡ o → k + suc m ≡ length lines
-        → (assembled_from text tokens names (all_places text tokens names lines) (counts_before lines (k + 1)) (place_before text tokens names lines (k + 1)) (image_of_first text tokens names lines (k + 1)) used (drop (k + 1) lines)
-        ≡ unless_refused (filter_map (refusal_at text tokens names lines) (range_with_len (k + 1) m)) (image_of_first text tokens names lines (length lines)) used)
-        → assembled_from text tokens names (all_places text tokens names lines) (counts_before lines k) (place_before text tokens names lines k) (image_of_first text tokens names lines k) used (line_at lines k ∷ drop (k + 1) lines)
-        ≡ unless_refused (filter_map (refusal_at text tokens names lines) (k ∷ range_with_len (k + 1) m)) (image_of_first text tokens names lines (length lines)) used
+    by_cause : (used m k : ℕ) (o : Option AsmCause) → cause_of names (all_places names lines) (counts_before lines k) (place_before names lines k) (line_at lines k) ≡ o → k + suc m ≡ length lines
+        → (assembled_from names (all_places names lines) (counts_before lines (k + 1)) (place_before names lines (k + 1)) (image_of_first names lines (k + 1)) used (drop (k + 1) lines)
+        ≡ unless_refused (filter_map (refusal_at names lines) (range_with_len (k + 1) m)) (image_of_first names lines (length lines)) used)
+        → assembled_from names (all_places names lines) (counts_before lines k) (place_before names lines k) (image_of_first names lines k) used (line_at lines k ∷ drop (k + 1) lines)
+        ≡ unless_refused (filter_map (refusal_at names lines) (k ∷ range_with_len (k + 1) m)) (image_of_first names lines (length lines)) used
     by_cause used m k (Some cause) c e rest =
-        assembled_from-refused text tokens names (all_places text tokens names lines) (counts_before lines k) (place_before text tokens names lines k) (image_of_first text tokens names lines k) used (line_at lines k) (drop (k + 1) lines) cause c
+        assembled_from-refused names (all_places names lines) (counts_before lines k) (place_before names lines k) (image_of_first names lines k) used (line_at lines k) (drop (k + 1) lines) cause c
         ∙ sym (rw c refl)
     by_cause used m k None c e rest =
-        let places = all_places text tokens names lines in
+        let places = all_places names lines in
         let inside : k < length lines = omega (arith, e) in
         let behind = drop (k + 1) lines in
-        assembled_from-free text tokens names places (counts_before lines k) (place_before text tokens names lines k) (image_of_first text tokens names lines k) used (line_at lines k) behind c
-        ∙ (ap (λ d. assembled_from text tokens names places d (place_after text tokens names (counts_before lines k) (place_before text tokens names lines k) (line_at lines k))
-        (with_statement text tokens names places (line_at lines k).number (place_before text tokens names lines k) (line_at lines k).statement (image_of_first text tokens names lines k)) used behind) (counts_more lines k inside)
-        ∙ (ap (λ q. assembled_from text tokens names places (counts_before lines (k + 1)) q
-        (with_statement text tokens names places (line_at lines k).number (place_before text tokens names lines k) (line_at lines k).statement (image_of_first text tokens names lines k)) used behind) (place_more k inside)
-        ∙ (ap (λ r. assembled_from text tokens names places (counts_before lines (k + 1)) (place_before text tokens names lines (k + 1)) r used behind) (image_more k)
+        assembled_from-free names places (counts_before lines k) (place_before names lines k) (image_of_first names lines k) used (line_at lines k) behind c
+        ∙ (ap (λ d. assembled_from names places d (place_after names (counts_before lines k) (place_before names lines k) (line_at lines k))
+        (with_statement names places (line_at lines k).number (place_before names lines k) (line_at lines k).statement (image_of_first names lines k)) used behind) (counts_more lines k inside)
+        ∙ (ap (λ q. assembled_from names places (counts_before lines (k + 1)) q
+        (with_statement names places (line_at lines k).number (place_before names lines k) (line_at lines k).statement (image_of_first names lines k)) used behind) (place_more k inside)
+        ∙ (ap (λ r. assembled_from names places (counts_before lines (k + 1)) (place_before names lines (k + 1)) r used behind) (image_more k)
         ∙ (rest ∙ sym (rw c refl)))))
 
     from_line : (used m k : ℕ) → k + m ≡ length lines
-        → assembled_from text tokens names (all_places text tokens names lines) (counts_before lines k) (place_before text tokens names lines k) (image_of_first text tokens names lines k) used (drop k lines)
-        ≡ unless_refused (filter_map (refusal_at text tokens names lines) (range_with_len k m)) (image_of_first text tokens names lines (length lines)) used
+        → assembled_from names (all_places names lines) (counts_before lines k) (place_before names lines k) (image_of_first names lines k) used (drop k lines)
+        ≡ unless_refused (filter_map (refusal_at names lines) (range_with_len k m)) (image_of_first names lines (length lines)) used
     from_line used zero k e =
         let end : k ≡ length lines = omega (arith, e) in
-        ap (assembled_from text tokens names (all_places text tokens names lines) (counts_before lines k) (place_before text tokens names lines k) (image_of_first text tokens names lines k) used) (drop_all k lines (omega (arith, e)))
-        ∙ ap (λ n. Gives (image_of_first text tokens names lines n) used) end
+        ap (assembled_from names (all_places names lines) (counts_before lines k) (place_before names lines k) (image_of_first names lines k) used) (drop_all k lines (omega (arith, e)))
+        ∙ ap (λ n. Gives (image_of_first names lines n) used) end
     from_line used (suc m) k e =
         let inside : k < length lines = omega (arith, e) in
-        ap (assembled_from text tokens names (all_places text tokens names lines) (counts_before lines k) (place_before text tokens names lines k) (image_of_first text tokens names lines k) used) (drop_more lines k no_line inside)
-        ∙ by_cause used m k (cause_of text tokens names (all_places text tokens names lines) (counts_before lines k) (place_before text tokens names lines k) (line_at lines k)) refl e (from_line used m (k + 1) (omega (arith, e)))
+        ap (assembled_from names (all_places names lines) (counts_before lines k) (place_before names lines k) (image_of_first names lines k) used) (drop_more lines k no_line inside)
+        ∙ by_cause used m k (cause_of names (all_places names lines) (counts_before lines k) (place_before names lines k) (line_at lines k)) refl e (from_line used m (k + 1) (omega (arith, e)))
 
 -- what the lines give in order is what the steps make of them
-same_lines : (text : List ℕ) (tokens : List Token) (reading : Reading) → assembled_lines text tokens reading ≡ lines_assembled text tokens reading
-same_lines text tokens reading =
+same_lines : (reading : Reading) → assembled_lines reading ≡ lines_assembled reading
+same_lines reading =
     let lines = reading.lines in
-    let names = names_of text lines in
-    ap (λ places. assembled_from text tokens names places no_counts no_place empty_image reading.used lines) (same_places text lines tokens names)
-    ∙ (from_line text lines tokens names reading.used (length lines) 0 (omega arith)
-    ∙ ap (λ n. unless_refused (filter_map (refusal_at text tokens n lines) (numbers lines)) (image_of_first text tokens n lines (length lines)) reading.used) (same_names text lines))
+    let names = names_of lines in
+    ap (λ places. assembled_from names places no_counts no_place empty_image reading.used lines) (same_places lines names)
+    ∙ (from_line lines names reading.used (length lines) 0 (omega arith)
+    ∙ ap (λ n. unless_refused (filter_map (refusal_at n lines) (numbers lines)) (image_of_first n lines (length lines)) reading.used) (same_names lines))
 
 pub same_assembled : (text : List ℕ) (tokens : List Token) → assembled text tokens ≡ assembled_by_steps text tokens
 unfolding assembled
-same_assembled text tokens = sym (same_lines text tokens (read text tokens))
+same_assembled text tokens = sym (same_lines (read text tokens))

@@ -3,11 +3,11 @@ use Rattle.std.proofs.Common.{◌≡◌, ℕ, List, [], ◌∷◌, refl}
 use Rattle.std.specs.Prelude.{codes}
 use Rattle.text_lex.specs.Tokens.{Lexed, Tokens, lexed}
 use Rattle.kern_base.specs.declared.kinds.Kind.TheVariants.{Sem}
-use Rattle.rv32_asm.specs.Words.{service_number}
-use Rattle.rv32_asm.specs.Names.{defined_at_start}
+use Rattle.asm_lines.specs.Words.{service_number}
+use Rattle.asm_places.specs.Names.{defined_at_start}
 use Rattle.rv32_asm.specs.Assembled.{assembled}
 use Rattle.rv32_asm.specs.Assembly.{Assembly, Gives, Refuses}
-use Rattle.rv32_asm.specs.declared.causes.AsmCause.TheVariants.{UnknownStatement, DefinedTwice, TargetRange}
+use Rattle.asm_causes.specs.declared.causes.AsmCause.TheVariants.{UnknownStatement, DefinedTwice, TargetRange}
 
 -- what a text is assembled to whose tokens are these
 abbrev read_as : List ℕ → Lexed → Assembly

@@ -1,9 +1,9 @@
 -- What a text is assembled to: an image, or a refusal.
 use Rattle.std.specs.Prelude.{◌≡◌, ℕ}
 use Rattle.app_image.specs.Raw.{RawRecord}
-use Rattle.rv32_asm.specs.declared.causes.AsmCause.{AsmCause}
-use Rattle.rv32_asm.specs.declared.causes.AsmError.{AsmError}
-use Rattle.rv32_asm.specs.declared.causes.AsmError.TheVariants.{NoMemory, At}
+use Rattle.asm_causes.specs.declared.causes.AsmCause.{AsmCause}
+use Rattle.rv32_asm.specs.declared.errors.AsmError.{AsmError}
+use Rattle.rv32_asm.specs.declared.errors.AsmError.TheVariants.{NoMemory, At}
 
 -- what a text is assembled to: an image and where the tokens behind `.inject` begin, or the line and the cause of its refusal
 pub data Assembly : Type 0 where

@@ -1,12 +1,10 @@
 -- What stands before a line. A line is named by its number among the lines that are not empty, from 0.
 use Rattle.std.specs.Prelude.{ℕ, List, [], ◌∷◌, take, slice_index_or, Bool, true, false, Option, Some, None}
 use Rattle.std.specs.List.{count_by, filter_map}
-use Rattle.rv32_asm.specs.declared.mnemonics.Section.{Section}
-use Rattle.rv32_asm.specs.declared.mnemonics.Section.TheVariants.{Nowhere}
-use Rattle.rv32_asm.specs.declared.statements.Statement.{Statement}
-use Rattle.rv32_asm.specs.declared.statements.Statement.TheVariants.{Nothing, Section as Sections, Task, Object, Vector}
-use Rattle.rv32_asm.specs.declared.statements.Line.{Line}
-use Rattle.rv32_asm.specs.declared.places.Counts.{Counts}
+use Rattle.asm_lines.specs.declared.mnemonics.Section.{Section}
+use Rattle.asm_lines.specs.declared.mnemonics.Section.TheVariants.{Nowhere}
+use Rattle.asm_lines.specs.Language.{Statement, Nothing, Sections, Task, Object, Vector, Line}
+use Rattle.asm_places.specs.Counts.{Counts}
 
 -- a line of nothing
 abbrev pub no_line : Line

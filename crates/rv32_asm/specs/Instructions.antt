@@ -1,36 +1,31 @@
 -- The instructions that a statement gives.
 use Rattle.std.specs.Prelude.{ℕ, ℤ, pos, negsuc, ◌+◌, ◌-◌, ◌/◌, ◌%◌, ◌^◌, List, [], ◌∷◌, map, replicate, Option, Some, None, unwrap_or, if◌then◌else◌, nat_lt}
 use Rattle.std.specs.Option.{option_to_list}
-use Rattle.text_lex.specs.declared.Token.{Token}
 use Rattle.rv32_isa.specs.declared.Instr.{Instr}
 use Rattle.rv32_isa.specs.declared.Instr.TheVariants as instr
 use Rattle.rv32_isa.specs.Listing.{encoded}
-use Rattle.rv32_asm.specs.Pieces.{spelling}
-use Rattle.rv32_asm.specs.Names.{Names, meaning}
-use Rattle.rv32_asm.specs.Operands.{listed, constant_of, value_of, word_of, fits_low, place_at}
-use Rattle.rv32_asm.specs.Causes.{distance}
-use Rattle.rv32_asm.specs.Places.{space_size}
-use Rattle.rv32_asm.specs.declared.pieces.Span.{Span}
-use Rattle.rv32_asm.specs.declared.pieces.Operand.{Operand}
-use Rattle.rv32_asm.specs.declared.mnemonics.RegisterOp.{RegisterOp}
-use Rattle.rv32_asm.specs.declared.mnemonics.RegisterOp.TheVariants.{Add, Sub, Sll, Slt, Sltu, Xor, Srl, Sra, Or, And, Mul, Mulh, Mulhsu, Mulhu, Div, Divu, Rem, Remu}
-use Rattle.rv32_asm.specs.declared.mnemonics.ImmediateOp.{ImmediateOp}
-use Rattle.rv32_asm.specs.declared.mnemonics.ImmediateOp.TheVariants.{Addi, Slti, Sltiu, Xori, Ori, Andi, Jalr, Lb, Lh, Lw, Lbu, Lhu}
-use Rattle.rv32_asm.specs.declared.mnemonics.ShiftOp.{ShiftOp}
-use Rattle.rv32_asm.specs.declared.mnemonics.ShiftOp.TheVariants.{Slli, Srli, Srai}
-use Rattle.rv32_asm.specs.declared.mnemonics.StoreOp.{StoreOp}
-use Rattle.rv32_asm.specs.declared.mnemonics.StoreOp.TheVariants.{Sb, Sh, Sw}
-use Rattle.rv32_asm.specs.declared.mnemonics.BranchOp.{BranchOp}
-use Rattle.rv32_asm.specs.declared.mnemonics.BranchOp.TheVariants.{Beq, Bne, Blt, Bge, Bltu, Bgeu}
-use Rattle.rv32_asm.specs.declared.mnemonics.UpperOp.{UpperOp}
-use Rattle.rv32_asm.specs.declared.mnemonics.UpperOp.TheVariants.{Lui, Auipc}
-use Rattle.rv32_asm.specs.declared.mnemonics.AloneOp.{AloneOp}
-use Rattle.rv32_asm.specs.declared.mnemonics.AloneOp.TheVariants.{Fence, Ecall, Ebreak}
-use Rattle.rv32_asm.specs.declared.statements.Statement.{Statement}
-use Rattle.rv32_asm.specs.declared.statements.Statement.TheVariants.{Words, Space, Registers, Immediate, Shift, Store, Branch, Upper, Jump, Alone, LoadConstant, LoadValue, CallService}
-use Rattle.rv32_asm.specs.declared.places.Place.{Place}
-use Rattle.rv32_asm.specs.declared.places.Meaning.{Meaning}
-use Rattle.rv32_asm.specs.declared.places.Meaning.TheVariants.{Label}
+use Rattle.asm_places.specs.Names.{Names, meaning}
+use Rattle.asm_places.specs.Operands.{constant_of, value_of, word_of, fits_low, place_at}
+use Rattle.asm_causes.specs.Causes.{distance}
+use Rattle.asm_causes.specs.Places.{space_size}
+use Rattle.asm_lines.specs.Language.{Operand, Statement, Words, Space, Registers, Immediate, Shift, Store, Branch, Upper, Jump, Alone, LoadConstant, LoadValue, CallService}
+use Rattle.asm_lines.specs.declared.mnemonics.RegisterOp.{RegisterOp}
+use Rattle.asm_lines.specs.declared.mnemonics.RegisterOp.TheVariants.{Add, Sub, Sll, Slt, Sltu, Xor, Srl, Sra, Or, And, Mul, Mulh, Mulhsu, Mulhu, Div, Divu, Rem, Remu}
+use Rattle.asm_lines.specs.declared.mnemonics.ImmediateOp.{ImmediateOp}
+use Rattle.asm_lines.specs.declared.mnemonics.ImmediateOp.TheVariants.{Addi, Slti, Sltiu, Xori, Ori, Andi, Jalr, Lb, Lh, Lw, Lbu, Lhu}
+use Rattle.asm_lines.specs.declared.mnemonics.ShiftOp.{ShiftOp}
+use Rattle.asm_lines.specs.declared.mnemonics.ShiftOp.TheVariants.{Slli, Srli, Srai}
+use Rattle.asm_lines.specs.declared.mnemonics.StoreOp.{StoreOp}
+use Rattle.asm_lines.specs.declared.mnemonics.StoreOp.TheVariants.{Sb, Sh, Sw}
+use Rattle.asm_lines.specs.declared.mnemonics.BranchOp.{BranchOp}
+use Rattle.asm_lines.specs.declared.mnemonics.BranchOp.TheVariants.{Beq, Bne, Blt, Bge, Bltu, Bgeu}
+use Rattle.asm_lines.specs.declared.mnemonics.UpperOp.{UpperOp}
+use Rattle.asm_lines.specs.declared.mnemonics.UpperOp.TheVariants.{Lui, Auipc}
+use Rattle.asm_lines.specs.declared.mnemonics.AloneOp.{AloneOp}
+use Rattle.asm_lines.specs.declared.mnemonics.AloneOp.TheVariants.{Fence, Ecall, Ebreak}
+use Rattle.asm_places.specs.Place.{Place}
+use Rattle.asm_places.specs.declared.places.Meaning.{Meaning}
+use Rattle.asm_places.specs.declared.places.Meaning.TheVariants.{Label}
 
 -- rd, rs1, rs2
 abbrev pub of_registers : RegisterOp → (rd rs1 rs2 : ℕ) → Instr
@@ -120,38 +115,38 @@ load_constant rd value = if fits_low value then instr.Addi rd 0 value ∷ [] els
 abbrev pub register_of : Option ℕ → ℕ
 register_of r = unwrap_or r 0
 
-abbrev pub constant : List ℕ → Names → Operand → ℤ
-constant text names o = unwrap_or (constant_of text names o) (pos 0)
+abbrev pub constant : Names → Operand → ℤ
+constant names o = unwrap_or (constant_of names o) (pos 0)
 
 -- the distance to what a name stands for
 abbrev pub distance_to : List Place → Place → Option Meaning → ℤ
 distance_to places from (Some (Label line)) = distance from (place_at places line)
 distance_to places from _ = pos 0
 
-abbrev pub target_distance : List ℕ → Names → List Place → Place → Span → ℤ
-target_distance text names places from s = distance_to places from (meaning names (spelling text s))
+abbrev pub target_distance : Names → List Place → Place → List ℕ → ℤ
+target_distance names places from name = distance_to places from (meaning names name)
 
 -- the instruction that a statement gives alone, where its line begins here
-abbrev pub instruction : List ℕ → Names → List Place → Place → Statement → Option Instr
-instruction text names places from (Registers op d s t) = Some (of_registers op (register_of d) (register_of s) (register_of t))
-instruction text names places from (Immediate op d s c) = Some (of_immediate op (register_of d) (register_of s) (constant text names c))
-instruction text names places from (Shift op d s c) = Some (of_shift op (register_of d) (register_of s) (constant text names c))
-instruction text names places from (Store op t s c) = Some (of_store op (register_of s) (register_of t) (constant text names c))
-instruction text names places from (Branch op s t target) = Some (of_branch op (register_of s) (register_of t) (target_distance text names places from target))
-instruction text names places from (Upper op d c) = Some (of_upper op (register_of d) (constant text names c))
-instruction text names places from (Jump d target) = Some (instr.Jal (register_of d) (target_distance text names places from target))
-instruction text names places from (Alone op) = Some (of_alone op)
-instruction text names places from _ = None
+abbrev pub instruction : Names → List Place → Place → Statement → Option Instr
+instruction names places from (Registers op d s t) = Some (of_registers op (register_of d) (register_of s) (register_of t))
+instruction names places from (Immediate op d s c) = Some (of_immediate op (register_of d) (register_of s) (constant names c))
+instruction names places from (Shift op d s c) = Some (of_shift op (register_of d) (register_of s) (constant names c))
+instruction names places from (Store op t s c) = Some (of_store op (register_of s) (register_of t) (constant names c))
+instruction names places from (Branch op s t target) = Some (of_branch op (register_of s) (register_of t) (target_distance names places from target))
+instruction names places from (Upper op d c) = Some (of_upper op (register_of d) (constant names c))
+instruction names places from (Jump d target) = Some (instr.Jal (register_of d) (target_distance names places from target))
+instruction names places from (Alone op) = Some (of_alone op)
+instruction names places from _ = None
 
 -- the instructions that a statement gives, where its line begins here
-abbrev pub instructions : List ℕ → Names → List Place → Place → Statement → List Instr
-instructions text names places from (LoadConstant d c) = load_constant (register_of d) (constant text names c)
-instructions text names places from (LoadValue d v) = load_word (register_of d) (value_of text names places v)
-instructions text names places from (CallService number) = instr.Addi 17 0 (pos number) ∷ instr.Ecall ∷ []
-instructions text names places from statement = option_to_list (instruction text names places from statement)
+abbrev pub instructions : Names → List Place → Place → Statement → List Instr
+instructions names places from (LoadConstant d c) = load_constant (register_of d) (constant names c)
+instructions names places from (LoadValue d v) = load_word (register_of d) (value_of names places v)
+instructions names places from (CallService number) = instr.Addi 17 0 (pos number) ∷ instr.Ecall ∷ []
+instructions names places from statement = option_to_list (instruction names places from statement)
 
 -- the words that a statement gives
-abbrev pub words : List ℕ → List Token → Names → List Place → Place → Statement → List ℕ
-words text tokens names places from (Words at count) = map (value_of text names places) (listed tokens at count)
-words text tokens names places from (Space c) = replicate (space_size (constant_of text names c) / 4) 0
-words text tokens names places from statement = map encoded (instructions text names places from statement)
+abbrev pub words : Names → List Place → Place → Statement → List ℕ
+words names places from (Words values) = map (value_of names places) values
+words names places from (Space c) = replicate (space_size (constant_of names c) / 4) 0
+words names places from statement = map encoded (instructions names places from statement)

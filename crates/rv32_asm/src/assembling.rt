@@ -4,37 +4,32 @@ ghost use Rattle.std.specs.Prelude.{◌≡◌, ◌<◌, ◌≤◌, ◌^◌, ℕ,
 ghost use Rattle.std.specs.List.{list_any};
 ghost use Rattle.text_lex.specs.Tokens.{lexed, Tokens};
 ghost use Rattle.app_image.specs.Raw.{IsMade};
-ghost use Rattle.rv32_asm.specs.NamesView.{known_in};
-ghost use Rattle.rv32_asm.specs.Steps.{no_counts, names_of as names_for};
-ghost use Rattle.rv32_asm.specs.Operands.{no_place, registers_in, value_of as value_for};
-ghost use Rattle.rv32_asm.specs.Causes.{is_register, has_constant_out_of_range, has_far_target, has_long_name};
+ghost use Rattle.asm_lines.specs.Kept.{operand_said, statement_said, lines_said};
+ghost use Rattle.asm_places.specs.NamesView.{known_in};
+ghost use Rattle.asm_places.specs.NameSteps.{no_counts};
+ghost use Rattle.asm_places.specs.Operands.{no_place, registers_in, value_of as value_for};
+ghost use Rattle.asm_causes.specs.Causes.{is_register, has_constant_out_of_range, has_far_target, has_long_name};
 ghost use Rattle.rv32_asm.specs.Assembled as given;
 ghost use Rattle.rv32_asm.specs.Assembled.{assembled};
 ghost use Rattle.rv32_asm.specs.Steps.{assembled_by_steps, assembled_from, assembled_lines, empty_image, with_statement, with_words};
 ghost use Rattle.rv32_asm.specs.Assembly.{Gives, IsFault};
-ghost use Rattle.rv32_asm.specs.Calm.{calm_lines};
+ghost use Rattle.asm_causes.specs.Calm.{calm_lines};
+ghost use Rattle.asm_causes.specs.Sizes.{AreSmall, HaveSmallNumbers};
 ghost use Rattle.rv32_asm.specs.DraftView.{raw_of};
 
 use crate::AsmError;
 use crate::draft::Draft;
 use crate::instructions::push_words;
-use crate::line_places::LinePlaces;
-use crate::lines::read;
-use crate::mnemonics::Section;
-use crate::names::{Names, counted, names_of};
-use crate::operands::value_of;
-use crate::pieces::{Operand, spelling};
-use crate::places::{NO_COUNTS, NO_PLACE, Place};
-use crate::placing::{place_behind, places_of, size_of};
-use crate::refusal::cause_of;
-use crate::statements::{Line, Statement};
 use app_image::{ConfigLine, Name, ObjDef, RawImage, TaskDef, VectorDef};
+use asm_causes::{cause_of, place_behind, places_of, size_of};
+use asm_lines::{Line, Operand, Section, Statement, read, spelling};
+use asm_places::{LinePlaces, NO_COUNTS, NO_PLACE, Names, Place, counted, names_of, value_of};
 use std::alloc::{AllocError, Global};
 use text_lex::{TEXT_LIMIT, Token};
 
 // The words that four operands are.
 fn four_words(text: &[u8], names: &Names, places: &LinePlaces, values: &[Operand; 4]) -> [u32; 4]
-    ensures { result ≡ map (value_for text.now (known_in names.now) places.now) values.now }
+    ensures { result ≡ map (value_for (known_in names.now) places.now) (map (operand_said text.now) values.now) }
 {
     [
         value_of(text, names, places, values[0]),
@@ -46,7 +41,7 @@ fn four_words(text: &[u8], names: &Names, places: &LinePlaces, values: &[Operand
 
 // The words that five operands are.
 fn five_words(text: &[u8], names: &Names, places: &LinePlaces, values: &[Operand; 5]) -> [u32; 5]
-    ensures { result ≡ map (value_for text.now (known_in names.now) places.now) values.now }
+    ensures { result ≡ map (value_for (known_in names.now) places.now) (map (operand_said text.now) values.now) }
 {
     [
         value_of(text, names, places, values[0]),
@@ -93,17 +88,16 @@ fn vector_of(values: [u32; 4], line: u32) -> VectorDef
 fn add_line(
     draft: &mut Draft,
     text: &[u8],
-    tokens: &[Token],
     names: &Names,
     places: &LinePlaces,
     place: Place,
     line: &Line,
 ) -> Result<(), AllocError>
-    requires registers { list_any (λ r. not (is_register r)) (registers_in line.now.statement) ≡ false }
-    requires constant { has_constant_out_of_range text.now (known_in names.now) line.now.statement ≡ false }
-    requires target { has_far_target text.now (known_in names.now) places.now place line.now.statement ≡ false }
-    requires name { has_long_name text.now line.now.statement ≡ false }
-    ensures { OnOk result (raw_of draft.new ≡ with_statement text.now tokens.now (known_in names.now) places.now line.now.number place line.now.statement (raw_of draft.old)) }
+    requires registers { list_any (λ r. not (is_register r)) (registers_in (statement_said text.now line.now.statement)) ≡ false }
+    requires constant { has_constant_out_of_range (known_in names.now) (statement_said text.now line.now.statement) ≡ false }
+    requires target { has_far_target (known_in names.now) places.now place (statement_said text.now line.now.statement) ≡ false }
+    requires name { has_long_name (statement_said text.now line.now.statement) ≡ false }
+    ensures { OnOk result (raw_of draft.new ≡ with_statement (known_in names.now) places.now line.now.number place (statement_said text.now line.now.statement) (raw_of draft.old)) }
 {
     match &line.statement {
         Statement::Task(name, values) => {
@@ -138,7 +132,7 @@ fn add_line(
         statement => {
             let words = &mut draft.words;
             words.clear();
-            push_words(words, text, tokens, names, places, place, statement)?;
+            push_words(words, text, names, places, place, statement)?;
             add_scratch(draft, place.section)
         }
     }
@@ -159,78 +153,63 @@ fn add_scratch(draft: &mut Draft, section: Section) -> Result<(), AllocError>
 fn assemble_lines(
     alloc: Global,
     text: &[u8],
-    tokens: &[Token],
     names: &Names,
     places: &LinePlaces,
     calm: usize,
     lines: &[Line],
 ) -> Result<RawImage, AsmError>
-    requires few_tokens { length tokens.now < 2 ^ 32 }
-    requires few_lines { length lines.now ≤ 2 ^ 32 }
-    requires calm { calm ≡ calm_lines text.now tokens.now (known_in names.now) lines.now }
-    ensures image { IfOk result (λ raw. (used : ℕ) → assembled_from text.now tokens.now (known_in names.now) places.now no_counts no_place empty_image used lines.now ≡ Gives raw used) }
-    ensures fault { IfErr result (λ error. (used : ℕ) → IsFault error (assembled_from text.now tokens.now (known_in names.now) places.now no_counts no_place empty_image used lines.now)) }
+    requires few_lines { length lines.now ≤ 2 ^ 24 }
+    requires small { HaveSmallNumbers (lines_said text.now lines.now) }
+    requires names { AreSmall (known_in names.now) }
+    requires calm { calm ≡ calm_lines (known_in names.now) (lines_said text.now lines.now) }
+    ensures image { IfOk result (λ raw. (used : ℕ) → assembled_from (known_in names.now) places.now no_counts no_place empty_image used (lines_said text.now lines.now) ≡ Gives raw used) }
+    ensures fault { IfErr result (λ error. (used : ℕ) → IsFault error (assembled_from (known_in names.now) places.now no_counts no_place empty_image used (lines_said text.now lines.now))) }
 {
     let mut draft = Draft::new(alloc);
     let mut counts = NO_COUNTS;
     let mut place = NO_PLACE;
     for line in lines {
         let is_calm = counts.lines < calm;
-        if let Some(cause) = cause_of(text, tokens, names, places, counts, place, line, is_calm) {
+        if let Some(cause) = cause_of(text, names, places, counts, place, line, is_calm) {
             return Err(AsmError::At(line.number, cause));
         }
-        let Ok(()) = add_line(&mut draft, text, tokens, names, places, place, line) else {
+        let Ok(()) = add_line(&mut draft, text, names, places, place, line) else {
             return Err(AsmError::NoMemory);
         };
-        let size = size_of(text, tokens, names, &line.statement);
-        let Some(after) = place_behind(place, size, &line.statement) else {
-            return Err(AsmError::NoMemory);
-        };
-        place = after;
+        let size = size_of(text, names, &line.statement);
+        place = place_behind(place, size, &line.statement);
         counts = counted(&line.statement, counts);
     }
     Ok(draft.into_raw())
 }
 
 // What the lines of a text give, or the first line with a cause.
-fn assemble_all(
-    alloc: Global,
-    text: &[u8],
-    tokens: &[Token],
-    lines: &[Line],
-) -> Result<RawImage, AsmError>
-    requires few_tokens { length tokens.now < 2 ^ 32 }
-    requires few_lines { length lines.now ≤ 2 ^ 32 }
-    ensures image { IfOk result (λ raw. (used : ℕ) → assembled_lines text.now tokens.now (record { lines = lines.now; used = used }) ≡ Gives raw used) }
-    ensures fault { IfErr result (λ error. (used : ℕ) → IsFault error (assembled_lines text.now tokens.now (record { lines = lines.now; used = used }))) }
+fn assemble_all(alloc: Global, text: &[u8], lines: &[Line]) -> Result<RawImage, AsmError>
+    requires few_lines { length lines.now ≤ 2 ^ 24 }
+    requires small { HaveSmallNumbers (lines_said text.now lines.now) }
+    ensures image { IfOk result (λ raw. (used : ℕ) → assembled_lines (record { lines = lines_said text.now lines.now; used = used }) ≡ Gives raw used) }
+    ensures fault { IfErr result (λ error. (used : ℕ) → IsFault error (assembled_lines (record { lines = lines_said text.now lines.now; used = used }))) }
 {
     let Ok(names) = names_of(alloc, text, lines) else {
         return Err(AsmError::NoMemory);
     };
-    let Ok(placed) = places_of(alloc, text, tokens, &names, lines) else {
+    let Ok(placed) = places_of(alloc, text, &names, lines) else {
         return Err(AsmError::NoMemory);
     };
-    assemble_lines(
-        alloc,
-        text,
-        tokens,
-        &names,
-        &placed.places,
-        placed.calm,
-        lines,
-    )
+    assemble_lines(alloc, text, &names, &placed.places, placed.calm, lines)
 }
 
 // What a text gives whose tokens are few.
 fn assemble_few(alloc: Global, text: &[u8], tokens: &[Token]) -> Result<(RawImage, usize), AsmError>
-    requires { length tokens.now < 2 ^ 32 }
+    requires few { length tokens.now < 2 ^ 24 }
+    requires tokens { lexed text.now ≡ Tokens tokens.now }
     ensures image { IfOk result (λ given. assembled_by_steps text.now tokens.now ≡ Gives given.0 given.1) }
     ensures fault { IfErr result (λ error. IsFault error (assembled_by_steps text.now tokens.now)) }
 {
     let Ok(reading) = read(alloc, text, tokens) else {
         return Err(AsmError::NoMemory);
     };
-    match assemble_all(alloc, text, tokens, &reading.lines) {
+    match assemble_all(alloc, text, &reading.lines) {
         Ok(raw) => Ok((raw, reading.used)),
         Err(error) => Err(error),
     }

@@ -4,20 +4,21 @@ ghost use Rattle.std.specs.Prelude.{◌≡◌, ◌<◌, ◌++◌, [], ◌∷◌,
 ghost use Rattle.std.specs.List.{list_any};
 ghost use Rattle.rv32_isa.specs.Listing.{encoded, IsInRange};
 ghost use Rattle.rv32_isa.specs.declared.Instr.TheVariants.{Addi, Ecall};
-ghost use Rattle.rv32_asm.specs.Operands.{fits_low, is_within, operands_among, registers_in, value_of as value_for};
-ghost use Rattle.rv32_asm.specs.Causes.{branch_reaches, jump_reaches, is_register, has_constant_out_of_range, has_far_target};
-ghost use Rattle.rv32_asm.specs.NamesView.{known_in};
+ghost use Rattle.asm_lines.specs.Pieces.{piece_of, operands_among};
+ghost use Rattle.asm_lines.specs.Kept.{operand_said, statement_said, spelling};
+ghost use Rattle.asm_places.specs.Operands.{fits_low, is_within, registers_in, value_of as value_for};
+ghost use Rattle.asm_causes.specs.Causes.{branch_reaches, jump_reaches, is_register, has_constant_out_of_range, has_far_target};
+ghost use Rattle.asm_places.specs.NamesView.{known_in};
 ghost use Rattle.rv32_asm.specs.Instructions as instructions;
 
-use crate::checks::distance;
-use crate::line_places::LinePlaces;
-use crate::mnemonics::{AloneOp, BranchOp, ImmediateOp, RegisterOp, ShiftOp, StoreOp, UpperOp};
-use crate::names::{Names, meaning};
-use crate::operands::{constant_of, fits_low, part, value_of, word_of};
-use crate::pieces::{Operand, Piece, Span, make_piece};
-use crate::places::{Meaning, Place};
-use crate::placing::space_size;
-use crate::statements::Statement;
+use asm_causes::{distance, space_size};
+use asm_lines::{
+    AloneOp, BranchOp, ImmediateOp, Operand, Piece, RegisterOp, ShiftOp, Span, Statement, StoreOp,
+    UpperOp, make_piece,
+};
+use asm_places::{
+    LinePlaces, Meaning, Names, Place, constant_of, fits_low, meaning, value_of, word_of,
+};
 use rv32_isa::{Instr, encode};
 use std::alloc::AllocError;
 use text_lex::Token;
@@ -169,31 +170,31 @@ fn register_of(register: Option<u8>) -> u8
 }
 
 fn constant(text: &[u8], names: &Names, operand: Operand) -> i64
-    ensures { result ≡ instructions.constant text.now (known_in names.now) operand }
+    ensures { result ≡ instructions.constant (known_in names.now) (operand_said text.now operand) }
 {
     constant_of(text, names, operand).unwrap_or(0)
 }
 
 // A constant that an immediate of 12 bits holds.
 fn low_constant(text: &[u8], names: &Names, operand: Operand) -> i32
-    requires { fits_low (instructions.constant text.now (known_in names.now) operand) ≡ true }
-    ensures { result ≡ instructions.constant text.now (known_in names.now) operand }
+    requires { fits_low (instructions.constant (known_in names.now) (operand_said text.now operand)) ≡ true }
+    ensures { result ≡ instructions.constant (known_in names.now) (operand_said text.now operand) }
 {
     constant(text, names, operand) as i32
 }
 
 // A constant that the upper 20 bits hold.
 fn upper_constant(text: &[u8], names: &Names, operand: Operand) -> i32
-    requires { is_within (pos 0) (pos 1048575) (instructions.constant text.now (known_in names.now) operand) ≡ true }
-    ensures { result ≡ instructions.constant text.now (known_in names.now) operand }
+    requires { is_within (pos 0) (pos 1048575) (instructions.constant (known_in names.now) (operand_said text.now operand)) ≡ true }
+    ensures { result ≡ instructions.constant (known_in names.now) (operand_said text.now operand) }
 {
     constant(text, names, operand) as i32
 }
 
 // A constant that 5 bits hold.
 fn shift_constant(text: &[u8], names: &Names, operand: Operand) -> i32
-    requires { is_within (pos 0) (pos 31) (instructions.constant text.now (known_in names.now) operand) ≡ true }
-    ensures { result ≡ instructions.constant text.now (known_in names.now) operand }
+    requires { is_within (pos 0) (pos 31) (instructions.constant (known_in names.now) (operand_said text.now operand)) ≡ true }
+    ensures { result ≡ instructions.constant (known_in names.now) (operand_said text.now operand) }
 {
     constant(text, names, operand) as i32
 }
@@ -215,16 +216,16 @@ fn branch_distance(
     from: Place,
     target: Span,
 ) -> i32
-    requires { branch_reaches (instructions.target_distance text.now (known_in names.now) places.now from target) ≡ true }
-    ensures { result ≡ instructions.target_distance text.now (known_in names.now) places.now from target }
+    requires { branch_reaches (instructions.target_distance (known_in names.now) places.now from (spelling text.now target)) ≡ true }
+    ensures { result ≡ instructions.target_distance (known_in names.now) places.now from (spelling text.now target) }
 {
     distance_to(places, from, meaning(text, names, target)) as i32
 }
 
 // The distance to a target that a jump reaches.
 fn jump_distance(text: &[u8], names: &Names, places: &LinePlaces, from: Place, target: Span) -> i32
-    requires { jump_reaches (instructions.target_distance text.now (known_in names.now) places.now from target) ≡ true }
-    ensures { result ≡ instructions.target_distance text.now (known_in names.now) places.now from target }
+    requires { jump_reaches (instructions.target_distance (known_in names.now) places.now from (spelling text.now target)) ≡ true }
+    ensures { result ≡ instructions.target_distance (known_in names.now) places.now from (spelling text.now target) }
 {
     distance_to(places, from, meaning(text, names, target)) as i32
 }
@@ -286,7 +287,7 @@ fn push_values(
     places: &LinePlaces,
     tokens: &[Token],
 ) -> Result<(), AllocError>
-    ensures { OnOk result (words.new.items ≡ words.old.items ++ map (value_for text.now (known_in names.now) places.now) (operands_among tokens.now)) }
+    ensures { OnOk result (words.new.items ≡ words.old.items ++ map (value_for (known_in names.now) places.now) (operands_among (map (piece_of text.now) tokens.now))) }
 {
     for token in tokens {
         if let Piece::Is(operand) = make_piece(token) {
@@ -316,10 +317,10 @@ fn instruction(
     from: Place,
     statement: &Statement,
 ) -> Option<Instr>
-    requires registers { list_any (λ r. not (is_register r)) (registers_in statement.now) ≡ false }
-    requires constant { has_constant_out_of_range text.now (known_in names.now) statement.now ≡ false }
-    requires target { has_far_target text.now (known_in names.now) places.now from statement.now ≡ false }
-    ensures value { result ≡ instructions.instruction text.now (known_in names.now) places.now from statement.now }
+    requires registers { list_any (λ r. not (is_register r)) (registers_in (statement_said text.now statement.now)) ≡ false }
+    requires constant { has_constant_out_of_range (known_in names.now) (statement_said text.now statement.now) ≡ false }
+    requires target { has_far_target (known_in names.now) places.now from (statement_said text.now statement.now) ≡ false }
+    ensures value { result ≡ instructions.instruction (known_in names.now) places.now from (statement_said text.now statement.now) }
     ensures range { IfSome result IsInRange }
 {
     match statement {
@@ -361,22 +362,18 @@ fn instruction(
 pub fn push_words(
     words: &mut Vec<u32>,
     text: &[u8],
-    tokens: &[Token],
     names: &Names,
     places: &LinePlaces,
     from: Place,
     statement: &Statement,
 ) -> Result<(), AllocError>
-    requires registers { list_any (λ r. not (is_register r)) (registers_in statement.now) ≡ false }
-    requires constant { has_constant_out_of_range text.now (known_in names.now) statement.now ≡ false }
-    requires target { has_far_target text.now (known_in names.now) places.now from statement.now ≡ false }
-    ensures { OnOk result (words.new.items ≡ words.old.items ++ instructions.words text.now tokens.now (known_in names.now) places.now from statement.now) }
+    requires registers { list_any (λ r. not (is_register r)) (registers_in (statement_said text.now statement.now)) ≡ false }
+    requires constant { has_constant_out_of_range (known_in names.now) (statement_said text.now statement.now) ≡ false }
+    requires target { has_far_target (known_in names.now) places.now from (statement_said text.now statement.now) ≡ false }
+    ensures { OnOk result (words.new.items ≡ words.old.items ++ instructions.words (known_in names.now) places.now from (statement_said text.now statement.now)) }
 {
     match statement {
-        Statement::Words(at, count) => {
-            let listed = part(tokens, *at, *count);
-            push_values(words, text, names, places, listed)
-        }
+        Statement::Words(listed) => push_values(words, text, names, places, listed.tokens()),
         Statement::Space(constant) => {
             let size = space_size(constant_of(text, names, *constant));
             push_zeros(words, size / 4)

@@ -2,30 +2,10 @@
 #![tactic(auto)]
 
 mod assembling;
-mod causes;
-mod checks;
 mod draft;
-mod fields;
-mod forms;
+mod errors;
 mod instructions;
-mod line_places;
-mod lines;
-mod mnemonics;
-mod names;
-mod operands;
-mod pieces;
-mod places;
-mod placing;
-mod refusal;
-mod registers;
-mod spellings;
-mod statements;
-mod tables;
-mod words;
 
+pub use asm_causes::AsmCause;
 pub use assembling::assemble;
-pub use causes::{AsmCause, AsmError};
-pub use mnemonics::{
-    AloneOp, BranchOp, ImmediateOp, RegisterOp, ShiftOp, StoreOp, UpperOp, jump_mnemonic,
-};
-pub use words::settings;
+pub use errors::AsmError;

@@ -9,7 +9,7 @@ use Rattle.std.proofs.lemmas.List.{drop_more, take-append-le}
 use Rattle.outside.specs.Written.{AppendsPrefix}
 use Rattle.app_image.specs.declared.settings.Config.{Config}
 use Rattle.app_image.specs.declared.settings.ConfigKey.{ConfigKey}
-use Rattle.rv32_asm.specs.Tables.{row_of}
+use Rattle.asm_lines.specs.Tables.{row_of}
 use Rattle.rv32_listing.specs.WordLines.{code_line}
 use Rattle.rv32_listing.specs.Disassembly.{code_lines, setting_line}
 

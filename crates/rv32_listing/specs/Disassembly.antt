@@ -10,7 +10,7 @@ use Rattle.app_image.specs.declared.records.VectorDef.{VectorDef}
 use Rattle.app_image.specs.declared.settings.Config.{Config}
 use Rattle.app_image.specs.declared.settings.ConfigKey.{ConfigKey}
 use Rattle.app_image.specs.declared.settings.ConfigKey.TheVariants.{IsrLimit, DeferSize, Pool, TmrDiv, RoundRobin, Quanta, TickPrio, TmrPrio, TmrSp, Insert}
-use Rattle.rv32_asm.specs.Words.{keys}
+use Rattle.asm_lines.specs.Words.{keys}
 use Rattle.rv32_listing.specs.Texts.{statement, word_statement}
 use Rattle.rv32_listing.specs.WordLines.{code_line}
 

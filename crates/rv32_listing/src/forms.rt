@@ -3,7 +3,7 @@
 ghost use Rattle.std.specs.Prelude.{◌≡◌};
 ghost use Rattle.rv32_listing.specs.Forms.{fence_form, form_of};
 
-use rv32_asm::{AloneOp, BranchOp, ImmediateOp, RegisterOp, ShiftOp, StoreOp, UpperOp};
+use asm_lines::{AloneOp, BranchOp, ImmediateOp, RegisterOp, ShiftOp, StoreOp, UpperOp};
 use rv32_isa::Instr;
 
 /// An instruction by the form of its line: what of the assembler's table it begins with, and its operands.

@@ -4,15 +4,15 @@ ghost use Rattle.std.specs.Prelude.{◌≤◌, ◌≡◌, ◌++◌, ℕ, List, l
 ghost use Rattle.std.specs.List.{flat_map, list_all};
 ghost use Rattle.outside.specs.Causes.{HasCause};
 ghost use Rattle.outside.specs.Written.{WritesPiece};
-ghost use Rattle.rv32_asm.specs.Tables.{row_of};
+ghost use Rattle.asm_lines.specs.Tables.{row_of};
 ghost use Rattle.rv32_listing.specs.Disassembly.{code_lines, declarations, disassembly, object_line, ram_line, setting_line, setting_lines, task_line, vector_line};
 
 use crate::declarations;
 use crate::pieces::Line;
 use crate::words::line_of_word;
 use app_image::{Config, ConfigKey, Image, ObjDef, TaskDef, VectorDef};
+use asm_lines::settings;
 use outside::{Failed, Sink};
-use rv32_asm::settings;
 
 /// Writes the listing of an image, each line in one write.
 #[tactic(auto, unfolding(crate::specs::Disassembly::disassembly))]

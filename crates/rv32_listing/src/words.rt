@@ -8,7 +8,7 @@ ghost use Rattle.rv32_listing.specs.WordLines.{branch_to, code_line, code_statem
 use crate::forms::{Form, form_of};
 use crate::pieces::{Line, Operand, push_bytes, push_hexadecimal, push_label, push_statement};
 use arrayvec::ArrayVec;
-use rv32_asm::{BranchOp, jump_mnemonic};
+use asm_lines::{BranchOp, jump_mnemonic};
 use rv32_isa::decode;
 
 // Where a branch or a jump goes from an address, if that is a code word, of so many.

@@ -6,7 +6,7 @@ use Rattle.kern_model.specs.State.{count_of, without}
 use Rattle.kern_model.specs.Effect.{unmatched}
 use Rattle.kern_model.specs.Timers.{match_of}
 use Rattle.kern_model.specs.Valid.{matched}
-use Rattle.kern_model.proofs.Lists.Counts.{count-append, count-without_other, count-without_same, length-le_by_counts}
+use Rattle.kern_model.proofs.Lemmas.{count-append, count-without_other, count-without_same, length-le_by_counts}
 use Rattle.tick_timers.specs.Matches.{AreNumbers, with_remainder}
 use Rattle.tick_timers.specs.WheelView.{count_or_zero, match_in, matches_in}
 

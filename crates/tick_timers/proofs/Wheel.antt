@@ -12,7 +12,7 @@ use Rattle.kern_model.specs.State.{count_of, without}
 use Rattle.kern_model.specs.Effect.{unmatched}
 use Rattle.kern_model.specs.Time.{due}
 use Rattle.kern_model.specs.Valid.{matched}
-use Rattle.kern_model.proofs.Lists.Counts.{count-append, count-without_same, count-without_other}
+use Rattle.kern_model.proofs.Lemmas.{count-append, count-without_same, count-without_other}
 use Rattle.tick_timers.specs.Matches.{pairs, slots_in, slot_at, with_remainder}
 use Rattle.tick_timers.specs.WheelView.{count_or_zero, match_in, matches_in, wheel_of, IsWheel}
 use Rattle.tick_timers.specs.declared.wheels.Match.{Match}

@@ -2,6 +2,7 @@ pub mod Matches
 pub mod GivingView
 pub mod WheelView
 pub mod TickRecord
+pub mod Delays
 pub mod TimerRecord
 pub mod TimerSeen
 pub mod TimerView

@@ -1,30 +1,33 @@
 // The tick counter, and the tasks that wait for a tick.
 
-ghost use Rattle.std.specs.Prelude.{◌≡◌, ◌<◌, ◌≤◌, ◌+◌, ◌%◌, ◌^◌, ℕ, Bool, not, [], ◌∷◌, ◌++◌, drop, length, slice_get, IfOk, MatchOption, Some, ◌==◌};
-ghost use Rattle.kern_base.specs.declared.requests.Request.{Request as Asked};
-ghost use Rattle.kern_model.specs.State.{Kernel, task_at};
+ghost use Rattle.std.specs.Prelude.{◌≡◌, ◌<◌, ◌≤◌, ◌+◌, ◌%◌, ◌^◌, [], ◌∷◌, ◌++◌, drop, length, slice_get, MatchOption, Some};
 ghost use Rattle.kern_model.specs.Effect.{unmatched};
-ghost use Rattle.kern_model.specs.Time.{due, resumes_delayed, time_dly};
+ghost use Rattle.kern_model.specs.Time.{delay_of, due};
+ghost use Rattle.tick_timers.specs.Delays.{delay_decision, is_delayed, resume_decision};
 ghost use Rattle.tick_timers.specs.Matches.{pairs, with_remainder, IsUnmatched};
-ghost use Rattle.tick_timers.specs.TickRecord.{delayed, resumed};
 
 use crate::Match;
 use crate::wheels::Wheel;
-use decisions::{failure, success};
-use kern_base::{Answer, OsErr, Request, TaskId, Waiting};
+use decisions::refuse;
+use kern_base::{Decision, OsErr, Request, TaskId, Waiting, Who};
 use std::marker::Model;
 
-/// What `OSTimeDlyResume` comes to, whose checks have passed, for a task that waits for this and is
-/// suspended so often: the task is woken, and this answers the caller; or the call is refused.
-pub fn decide_resume(waiting: Waiting, suspended: u8) -> Result<Answer, OsErr>
-    // It is what the service does, in every kernel where the task waits so.
-    ensures { (k : Kernel) (x compared : ℕ) → (task_at k x).suspended ≡ suspended →
-        resumes_delayed waiting x compared k ≡ resumed result x compared k }
+/// Whether a task that waits so is in a delay.
+pub fn is_delayed(waiting: Waiting) -> bool
+    ensures { result ≡ is_delayed waiting }
 {
-    match waiting {
-        Waiting::Delay if suspended == 0 => Ok(success(0)),
-        Waiting::Delay => Ok(failure(OsErr::TaskSuspended)),
-        _ => Err(OsErr::TaskNotDelayed),
+    matches!(waiting, Waiting::Delay)
+}
+
+/// What `OSTimeDlyResume` comes to, whose checks have passed, of a task that is in a delay or not: the delay ends, or the call
+/// is refused.
+pub fn decide_resume(delayed: bool) -> Decision
+    ensures { result ≡ resume_decision delayed }
+{
+    if delayed {
+        Decision::Wake(Who::First)
+    } else {
+        refuse(OsErr::TaskNotDelayed)
     }
 }
 
@@ -62,29 +65,31 @@ impl Ticks {
         self.ticks
     }
 
-    /// What `OSTimeDly` comes to, whose checks have passed: the caller waits for so many ticks, at least
-    /// one, or the call is refused with this error.
-    pub fn decide_delay(&self, request: &Request, locked: bool) -> Result<u32, OsErr>
-        ensures some { IfOk result (λ ticks. 0 < ticks) }
-
-        // It is what the service does, in every kernel with this counter and this lock.
-        ensures row { (k : Kernel) (x : ℕ) → k.ticks ≡ self.now.ticks → locked ≡ not (k.lock == 0) →
-            time_dly request.now x k ≡ delayed result x k }
+    /// The ticks of the delay that a call of `OSTimeDly` asks for: so many, or with option 1 those that are left until the
+    /// counter has this value, modulo 2^32.
+    pub fn delay(&self, request: &Request) -> u32
+        ensures { result ≡ delay_of request.now self.now.ticks }
     {
-        if locked {
-            return Err(OsErr::SchedLocked);
-        }
         let time = request.args[0];
-        let ticks = if request.args[1] == 1 {
+        if request.args[1] == 1 {
             time.wrapping_sub(self.ticks)
         } else {
             time
-        };
-        if ticks == 0 {
-            Err(OsErr::ZeroDelay)
-        } else {
-            Ok(ticks)
         }
+    }
+
+    /// What `OSTimeDly` comes to, whose checks have passed: the caller waits for these ticks, at least one, or the call is
+    /// refused.
+    pub fn decide_delay(&self, request: &Request, locked: bool) -> Decision
+        ensures { result ≡ delay_decision locked (delay_of request.now self.now.ticks) }
+    {
+        if locked {
+            return refuse(OsErr::SchedLocked);
+        }
+        if self.delay(request) == 0 {
+            return refuse(OsErr::ZeroDelay);
+        }
+        Decision::Block
     }
 
     /// A task that has no match gets this one, as the last.

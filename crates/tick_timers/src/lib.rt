@@ -11,7 +11,7 @@ mod giving;
 mod timer_table;
 mod wheels;
 
-pub use delays::{Ticks, decide_resume};
+pub use delays::{Ticks, decide_resume, is_delayed};
 pub use timer_table::{Timer, TimerState, Timers};
 pub use wheels::Match;
 

@@ -1,8 +1,9 @@
 // The lists of the wheels, and timers that are started, stopped and fire.
 
-use crate::{Match, Ticks, Timers, decide_resume};
+use crate::{Match, Ticks, Timers, decide_resume, is_delayed};
 use app_image::{check, read_image};
-use kern_base::{ObjId, OsErr, Request, Service, TaskId, Waiting};
+use decisions::refuse;
+use kern_base::{Decision, ObjId, OsErr, Request, Service, TaskId, Waiting, Who};
 use std::process::Abort;
 use std::test::Fail;
 
@@ -66,13 +67,13 @@ fn a_match_behind_the_counter_waits_for_the_next_round(rt: HostRuntime) {
 fn delays_are_decided(rt: HostRuntime) {
     let mut ticks = Ticks::new();
     ticks.tick();
-    for (time, option, locked, decision) in [
-        (5, 0, false, Ok(5)),
-        (5, 1, false, Ok(4)),
-        (0, 1, false, Ok(4_294_967_295)),
-        (0, 0, false, Err(OsErr::ZeroDelay)),
-        (1, 1, false, Err(OsErr::ZeroDelay)),
-        (0, 0, true, Err(OsErr::SchedLocked)),
+    for (time, option, locked, delay, decision) in [
+        (5, 0, false, 5, Decision::Block),
+        (5, 1, false, 4, Decision::Block),
+        (0, 1, false, 4_294_967_295, Decision::Block),
+        (0, 0, false, 0, refuse(OsErr::ZeroDelay)),
+        (1, 1, false, 0, refuse(OsErr::ZeroDelay)),
+        (0, 0, true, 0, refuse(OsErr::SchedLocked)),
     ] {
         let request = Request {
             service: Service::TimeDly,
@@ -81,18 +82,14 @@ fn delays_are_decided(rt: HostRuntime) {
             n_ids: 0,
             table: false,
         };
+        assert_eq!(rt; ticks.delay(&request), delay);
         assert_eq!(rt; ticks.decide_delay(&request, locked), decision);
     }
-    for (waiting, suspended, err) in [
-        (Waiting::Delay, 0, OsErr::NoError),
-        (Waiting::Delay, 2, OsErr::TaskSuspended),
-        (Waiting::TaskSem, 0, OsErr::TaskNotDelayed),
+    for (waiting, decision) in [
+        (Waiting::Delay, Decision::Wake(Who::First)),
+        (Waiting::TaskSem, refuse(OsErr::TaskNotDelayed)),
     ] {
-        let found = match decide_resume(waiting, suspended) {
-            Ok(answer) => answer.err,
-            Err(refused) => refused,
-        };
-        assert_eq!(rt; found, err);
+        assert_eq!(rt; decide_resume(is_delayed(waiting)), decision);
     }
 }
 

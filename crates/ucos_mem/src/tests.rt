@@ -1,6 +1,7 @@
 mod both;
 mod cases;
 mod deferred;
+mod ends;
 mod generated;
 mod interrupts;
 mod looks;
@@ -225,6 +226,23 @@ const FORMS_TO_6: &str = "0 0 start first
 6 6 end
 ";
 
+// A task that waits, and an interrupt handler that posts, up to the lines for injections, which begin at
+// line 14.
+const HANDLER: &str = ".code
+go: li a0, 0
+li a1, 0
+os OSSemPend
+j go
+v: li a0, 0
+li a1, 0
+os OSSemPost
+ret
+.sem s, 0
+.task a, go, 10, 0, 0, 0x140000
+.vector 3, 2, v, 0x13F000
+.inject
+";
+
 // A change of the first text that makes it no case: what is replaced, by what, and the line that
 // refuses it.
 const FAULTS: [(&str, &str, &str); 10] = [
@@ -291,6 +309,13 @@ fn changed(alloc: Global, old: &str, new: &str) -> Result<Vec<u8>, Fail> {
         text.extend_from_slice(new.as_bytes())?;
         text.extend_from_slice(back.as_bytes())?;
     }
+    Ok(text)
+}
+
+// The text of the handler with these lines for injections.
+fn handler_with(alloc: Global, behind: &str) -> Result<Vec<u8>, Fail> {
+    let mut text = HANDLER.as_bytes().to_vec(alloc)?;
+    text.extend_from_slice(behind.as_bytes())?;
     Ok(text)
 }
 

@@ -2,8 +2,8 @@
 
 ghost use Rattle.std.specs.Prelude.{◌≡◌, ◌++◌, ◌≤◌, ◌+◌, [], ◌∷◌, length, decimal};
 ghost use Rattle.arrayvec.specs.ArrayVec.{array_vec_len};
-ghost use Rattle.rv32_asm.specs.Refusal.{cause_number};
-ghost use Rattle.inject_list.specs.Stage as inject;
+ghost use Rattle.asm_causes.specs.Refusal.{cause_number};
+ghost use Rattle.inject_list.specs.Reading as inject;
 ghost use Rattle.program_model.specs.Refusals.{letter, number, refusal_line};
 
 use arrayvec::ArrayVec;

@@ -7,8 +7,9 @@ use Rattle.kern_model.proofs.Basics.Choices.{choice_by, equal, unequal, less}
 use Rattle.kern_model.proofs.Linked.Wakes.{alive-declared, ready_alive, linked-wakes_all}
 use Rattle.kern_model.proofs.Linked.Contents.{linked-with_content, AllWait-pend}
 use Rattle.kern_model.proofs.Linked.ObjectServices.{caller_ready, AllWait-chosen, linked-one_object, linked-passes_to, linked-aborts, linked-deletes}
+use Rattle.kern_model.proofs.Messages.Services.{objects-wakes_all}
 use Rattle.kern_laws.proofs.Changes.Each.{Preserved}
-use Rattle.kern_laws.proofs.Services.Wakes.{After, results-of, empty-woken, objects-woken, fits-one, before_renewal-wakes_all, preserved-renewing, preserved-waits_unless}
+use Rattle.kern_laws.proofs.Services.Wakes.{After, results-of, empty-woken, fits-one, before_renewal-wakes_all, preserved-renewing, preserved-waits_unless}
 
 -- a caller may own a mutex
 caller_owns : (k : Kernel) (x : ℕ) → IsLinked k → MayCall x k → MayOwn k.settings.tasks x
@@ -79,7 +80,7 @@ module _ (P Q : Kernel → Type 0) (c : Preserved P Q) where
   preserved-deleted xs o h owner n k s e d v p =
       let f = result_of (answer ObjectDeleted 0) in
       let w : AllWait k xs = subst (λ ys. AllWait k ys) s (AllWait-pend k v o) in
-      let same : object_at (wakes_all f h xs k) o ≡ object_at k o = ap (λ bs. get_or bs o no_object) (objects-woken f h xs k) in
+      let same : object_at (wakes_all f h xs k) o ≡ object_at k o = ap (λ bs. get_or bs o no_object) (objects-wakes_all f h xs k) in
       preserved-renewing P Q c at_tail (deletes true xs o h k) (linked-deletes true xs o h k v w)
       (c.deleted (wakes_all f h xs k) o owner n
       (record { links = linked-wakes_all f h xs k v w; there = ap (λ (b : Object). b.deleted) same ∙ d; holds = ap (λ (b : Object). b.content) same ∙ e })

@@ -9,9 +9,10 @@ use Rattle.kern_model.proofs.Halves.Effects.{choice}
 use Rattle.kern_model.proofs.Linked.Wakes.{linked-wakes, linked-wakes_all, AllWait-wakes}
 use Rattle.kern_model.proofs.Linked.Contents.{linked-with_content, AllWait-pend}
 use Rattle.kern_model.proofs.Linked.ObjectServices.{AllWait-chosen}
+use Rattle.kern_model.proofs.Messages.Services.{objects-wakes_all}
 use Rattle.kern_laws.proofs.Changes.Each.{Preserved, is_plain, waits_for_mutex}
 use Rattle.kern_laws.proofs.Changes.Words.{argument-word, held-words, rest-words, stored-words, ready-word, after-word, consumed-word}
-use Rattle.kern_laws.proofs.Services.Wakes.{After, NoMutexes, NoMutexes-wakes, NoMutexes-chosen, NoMutexes-pend, results-of, results-posted, among-pend, count-chosen, empty-woken, objects-woken, fits-one, preserved-wakes_all, preserved-free, preserved-pends}
+use Rattle.kern_laws.proofs.Services.Wakes.{After, NoMutexes, NoMutexes-wakes, NoMutexes-chosen, NoMutexes-pend, results-of, results-posted, among-pend, count-chosen, empty-woken, fits-one, preserved-wakes_all, preserved-free, preserved-pends}
 
 -- another content leaves what tasks wait for
 NoMutexes-content : (k : Kernel) (o : ℕ) (content : Content) (xs : List ℕ) → NoMutexes k xs → NoMutexes (with_content k o content) xs
@@ -137,7 +138,7 @@ module _ (P Q : Kernel → Type 0) (c : Preserved P Q) where
       let w : AllWait k xs = subst (λ ys. AllWait k ys) e (AllWait-pend k v o) in
       let free : NoMutexes k xs = subst (λ ys. NoMutexes k ys) e (NoMutexes-pend k v (c.fits k p) o plain) in
       let b : Object = object_at k o in
-      let same : object_at (wakes_all f h xs k) o ≡ b = ap (λ bs. get_or bs o no_object) (objects-woken f h xs k) in
+      let same : object_at (wakes_all f h xs k) o ≡ b = ap (λ bs. get_or bs o no_object) (objects-wakes_all f h xs k) in
       c.deleted_kept (wakes_all f h xs k) o b.content (record { links = linked-wakes_all f h xs k v w; there = ap (λ (a : Object). a.deleted) same ∙ d; holds = ap (λ (a : Object). a.content) same }) plain
       (subst (λ ys. list_at (wakes_all f h ys k).pend o ≡ []) e (empty-woken f h k o v))
       (preserved-wakes_all P Q c f h xs k (λ y _. results-of (answer ObjectDeleted 0) (omega arith, omega arith) (task_at k y)) v w free p)

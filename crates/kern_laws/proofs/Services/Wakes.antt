@@ -12,6 +12,7 @@ use Rattle.kern_model.proofs.Linked.Wakes.{linked-wakes, AllWait-wakes, waits-co
 use Rattle.kern_model.proofs.Linked.Contents.{AllWait-pend}
 use Rattle.kern_model.proofs.Linked.ObjectServices.{caller_ready}
 use Rattle.kern_laws.proofs.Changes.Each.{Preserved, IsResultFor, WaitsFit, waits_for_mutex, is_plain}
+use Rattle.kern_laws.proofs.Valid.Objects.{empty_by_counts}
 
 -- the results of waits
 
@@ -243,17 +244,8 @@ empties f h (x ∷ xs) k o v w few y =
           | inr e ↦ omega (arith, count-left_all_other x (task_at k x).objects k.pend o y e.1, few y, ap one_if e.0)
         ]
 
-no_counts : (xs : List ℕ) → ((y : ℕ) → count_of y xs ≡ 0) → xs ≡ []
-no_counts [] h = refl
-no_counts (x ∷ xs) h = absurd (omega (arith, h x, ap one_if (self_equal x)))
-
 pub empty-woken : (f : Task → Finished) (h : ℕ) (k : Kernel) (o : ℕ) → IsLinked k → list_at (wakes_all f h (list_at k.pend o) k).pend o ≡ []
-empty-woken f h k o v = no_counts (list_at (wakes_all f h (list_at k.pend o) k).pend o) (empties f h (list_at k.pend o) k o v (AllWait-pend k v o) (λ y. omega arith))
-
--- wakes leave the objects
-pub objects-woken : (f : Task → Finished) (h : ℕ) (xs : List ℕ) (k : Kernel) → (wakes_all f h xs k).objects ≡ k.objects
-objects-woken f h [] k = refl
-objects-woken f h (x ∷ xs) k = objects-woken f h xs (wakes (f (task_at k x)) h x k)
+empty-woken f h k o v = empty_by_counts (list_at (wakes_all f h (list_at k.pend o) k).pend o) (empties f h (list_at k.pend o) k o v (AllWait-pend k v o) (λ y. omega arith))
 
 -- a wait for one object
 pub fits-one : (k : Kernel) (w : Waiting) (o : ℕ) → (object_at k o).deleted ≡ false → can_wait w (object_at k o).content ≡ true → Fits k.objects w (o ∷ [])

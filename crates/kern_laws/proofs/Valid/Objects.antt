@@ -12,7 +12,7 @@ use Rattle.kern_laws.proofs.Changes.Parts.{SoundObjects, Keeps}
 use Rattle.kern_laws.proofs.Valid.Fits.{free_never, timed_never}
 
 -- a list in which nothing stands is empty
-empty_by_counts : (xs : List ℕ) → ((y : ℕ) → count_of y xs ≡ 0) → xs ≡ []
+pub empty_by_counts : (xs : List ℕ) → ((y : ℕ) → count_of y xs ≡ 0) → xs ≡ []
 empty_by_counts [] h = refl
 empty_by_counts (x ∷ xs) h = absurd (omega (arith, h x, ap one_if (self_equal x)))
 

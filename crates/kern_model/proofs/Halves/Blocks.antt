@@ -30,11 +30,11 @@ same_step (LeaveForward c x) h j e = ap (λ l. at_chain c (without x) l) e
 same_step (LeaveBack c x) h j e = e
 same_step (Mark p) h j e = e
 
-same_forward : (ms : List Micro) (h j : Halves) → h.forward ≡ j.forward → (changed_all ms h).forward ≡ (changed_all ms j).forward
+pub same_forward : (ms : List Micro) (h j : Halves) → h.forward ≡ j.forward → (changed_all ms h).forward ≡ (changed_all ms j).forward
 same_forward [] h j e = e
 same_forward (m ∷ ms) h j e = same_forward ms (changed m h) (changed m j) (same_step m h j e)
 
-after-append : (ms ns : List Micro) (l : Lists) → after (ms ++ ns) l ≡ after ns (after ms l)
+pub after-append : (ms ns : List Micro) (l : Lists) → after (ms ++ ns) l ≡ after ns (after ms l)
 after-append ms ns l =
     ap (λ (h : Halves). h.forward) (changed_all-append ms ns (whole l)) ∙ same_forward ns (changed_all ms (whole l)) (whole (after ms l)) refl
 
@@ -99,12 +99,12 @@ does_unready x p l =
     (unmark (without x) refl (filled_without x) l.ready p)
 
 -- entries that are passed change no list
-passed : (n : ℕ) (ms : List Micro) (h : Halves) → changed_all (replicate n Plain ++ ms) h ≡ changed_all ms h
-passed zero ms h = refl
-passed (suc n) ms h = passed n ms h
+pub plains : (n : ℕ) (ms : List Micro) (h : Halves) → changed_all (replicate n Plain ++ ms) h ≡ changed_all ms h
+plains zero ms h = refl
+plains (suc n) ms h = plains n ms h
 
 pub does_wait : (prio : ℕ → ℕ) (x p o : ℕ) → Does (wait prio x p o) (λ l. record { ready = l.ready; pend = update_list l.pend o (λ xs. insert xs (wait_place prio p xs) x) })
-does_wait prio x p o l = passed (wait_place prio p (list_at l.pend o)) _ (whole l)
+does_wait prio x p o l = plains (wait_place prio p (list_at l.pend o)) _ (whole l)
 
 pub does_waits : (prio : ℕ → ℕ) (x p : ℕ) (os : List ℕ) → Does (in_order (wait_blocks prio x p os)) (λ l. record { ready = l.ready; pend = stands_in prio x p os l.pend })
 does_waits prio x p [] = does_none

@@ -12,7 +12,7 @@ use Rattle.kern_model.specs.Time.{delays, delay_of, time_dly, resumes_delayed, s
 use Rattle.kern_model.specs.Timers.{runs, rests, tmr_start, tmr_stop_in, tmr_stop, tmr_remain_get, tmr_state_get, tmr_del, timer_counts, fired, timer_ends, timer_goes_on, timer_unit, due_timer, has_callback, start_delay}
 use Rattle.kern_model.specs.Stop.{callback_ended}
 use Rattle.kern_model.proofs.Basics.Updates.{update_task_same}
-use Rattle.kern_model.proofs.Basics.Choices.{choice_by, equal, unequal, at_most, not_less, and_first, and_second, or_first, or_second, not_false, some≢none}
+use Rattle.kern_model.proofs.Basics.Choices.{choice_by, equal, unequal, at_most, not_less, and_first, and_second, or_first, or_second, not_false, some≢none, second_passed}
 use Rattle.kern_model.proofs.Halves.Effects.{choice}
 use Rattle.kern_model.proofs.Linked.Wakes.{linked-wakes_all, linked-blocked, self_equal, ready_free}
 use Rattle.kern_model.proofs.Linked.Contents.{linked-objects, linked-with_content, update_object_keeps, object_inside, all_wait, matched_none}
@@ -440,10 +440,6 @@ pub record TableHolds (r : Request) (k : Kernel) : Type 0 where
   pub few : length (table_objects r) ≤ 8
   pub different : (o : ℕ) → count_of o (table_objects r) ≤ 1
 
-later_none : (a b : Option OsErr) → first_error a b ≡ None → b ≡ None
-later_none None b h = h
-later_none (Some e) b h = absurd (some≢none e h)
-
 pub table_holds : (r : Request) (k : Kernel) → multi_error r k ≡ None → TableHolds r k
 table_holds r k h = by_fault (is_table_fault r) refl h
   where
@@ -452,7 +448,7 @@ table_holds r k h = by_fault (is_table_fault r) refl h
     by_fault false e h =
         let sound = or_second (not r.table) (nat_lt 8 r.n_ids || repeats (table_objects r)) e in
         record {
-          inside = all_inside (table_objects r) k (later_none (kinds_error (table_objects r) (kinds_of k)) (deleted_error (table_objects r) k) h);
+          inside = all_inside (table_objects r) k (second_passed (kinds_error (table_objects r) (kinds_of k)) (deleted_error (table_objects r) k) h);
           few = omega (arith, length-take r.n_ids r.ids, not_less 8 r.n_ids (or_first (nat_lt 8 r.n_ids) (repeats (table_objects r)) sound));
           different = all_differ (table_objects r) (or_second (nat_lt 8 r.n_ids) (repeats (table_objects r)) sound);
         }

@@ -202,7 +202,7 @@ pool-without_object : (o : ℕ) (k : Kernel) → o < length k.objects → pool_o
 pool-without_object o k i =
     omega (arith, objects-set (λ b. record { content = emptied b.content; deleted = true }) k.objects o i, emptied-none (object_at k o).content)
 
-objects-wakes_all : (f : Task → Finished) (h : ℕ) (xs : List ℕ) (k : Kernel) → (wakes_all f h xs k).objects ≡ k.objects
+pub objects-wakes_all : (f : Task → Finished) (h : ℕ) (xs : List ℕ) (k : Kernel) → (wakes_all f h xs k).objects ≡ k.objects
 objects-wakes_all f h [] k = refl
 objects-wakes_all f h (x ∷ xs) k = objects-wakes_all f h xs (wakes (f (task_at k x)) h x k)
 

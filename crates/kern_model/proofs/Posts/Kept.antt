@@ -126,7 +126,7 @@ keeps-q_post : (c : Content) (r : Request) (h : ℕ) (k : Kernel) → KeepsBy k 
 keeps-q_post (Messages limit ms) r h k = keeps-q_post_to (list_at k.pend (argument r 0)) limit ms r h k
 keeps-q_post _ r h k = keeps-refl k
 
-keeps-flag_wakes : (o : Option ℕ) (h x : ℕ) (k : Kernel) → PostKeeps k (flag_wakes o h x k)
+pub keeps-flag_wakes : (o : Option ℕ) (h x : ℕ) (k : Kernel) → PostKeeps k (flag_wakes o h x k)
 keeps-flag_wakes None h x k = keeps-refl k
 keeps-flag_wakes (Some ready) h x k = keeps-wakes (result_of (fine ready) (task_at k x)) h x k
 

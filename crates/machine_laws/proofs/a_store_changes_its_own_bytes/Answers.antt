@@ -1,4 +1,4 @@
-use Rattle.machine_laws.proofs.MemoryLaws.{memory-next}
+use Rattle.machine_laws.proofs.Isolation.Memory.{memory-next}
 use Rattle.machine_model.specs.Rules.{next}
 use Rattle.rv32_exec.proofs.StoreLaws.{stored-bytes}
 use Rattle.machine_laws.proofs.a_store_changes_its_own_bytes.Goals as goal

@@ -1,4 +1,4 @@
-use Rattle.machine_laws.proofs.MachinesOf.{events-run}
+use Rattle.machine_laws.proofs.Runs.Machines.{events-run}
 use Rattle.machine_laws.proofs.each_event_is_of_its_machine.Goals as goal
 
 pub returns : goal.returns

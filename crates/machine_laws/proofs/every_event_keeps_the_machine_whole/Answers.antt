@@ -1,5 +1,5 @@
 -- Every event keeps the machine whole.
-use Rattle.machine_laws.proofs.WholeNext.{KernelStaysWhole, whole-next}
+use Rattle.machine_laws.proofs.Whole.Events.{KernelStaysWhole, whole-next}
 use Rattle.machine_laws.proofs.every_event_keeps_the_machine_whole.Goals as goal
 
 pub returns : goal.returns

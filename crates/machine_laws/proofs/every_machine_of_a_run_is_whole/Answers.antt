@@ -1,6 +1,6 @@
 -- Every machine of a run is whole.
-use Rattle.machine_laws.proofs.WholeNext.{KernelStaysWhole}
-use Rattle.machine_laws.proofs.WholeRuns.{whole-run}
+use Rattle.machine_laws.proofs.Whole.Events.{KernelStaysWhole}
+use Rattle.machine_laws.proofs.Whole.Runs.{whole-run}
 use Rattle.machine_laws.proofs.every_machine_of_a_run_is_whole.Goals as goal
 
 pub returns : goal.returns

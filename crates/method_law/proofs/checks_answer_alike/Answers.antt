@@ -1,6 +1,6 @@
 use Rattle.std.proofs.Common.{ap}
 use Rattle.kern_base.specs.Checks.{static_error}
-use Rattle.method_law.proofs.KindLaws.{kinds-all_performed}
+use Rattle.method_law.proofs.Posts.Kinds.{kinds-all_performed}
 use Rattle.method_law.proofs.checks_answer_alike.Goals as goal
 
 pub returns : goal.returns

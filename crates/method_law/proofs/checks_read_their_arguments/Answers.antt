@@ -1,4 +1,4 @@
-use Rattle.method_law.proofs.ArgumentLaws.{checked-same}
+use Rattle.method_law.proofs.Registers.Arguments.{checked-same}
 use Rattle.method_law.proofs.checks_read_their_arguments.Goals as goal
 
 pub returns : goal.returns

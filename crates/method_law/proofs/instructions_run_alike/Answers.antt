@@ -1,4 +1,4 @@
-use Rattle.method_law.proofs.ExecLaws.{like-exec}
+use Rattle.method_law.proofs.Registers.Instructions.{like-exec}
 use Rattle.method_law.proofs.instructions_run_alike.Goals as goal
 
 pub returns : goal.returns

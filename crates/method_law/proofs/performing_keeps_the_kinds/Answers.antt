@@ -1,4 +1,4 @@
-use Rattle.method_law.proofs.KindLaws.{kinds-all_performed}
+use Rattle.method_law.proofs.Posts.Kinds.{kinds-all_performed}
 use Rattle.method_law.proofs.performing_keeps_the_kinds.Goals as goal
 
 pub returns : goal.returns

@@ -1,4 +1,4 @@
-use Rattle.method_law.proofs.ArgumentLaws.{posted-same}
+use Rattle.method_law.proofs.Registers.Arguments.{posted-same}
 use Rattle.method_law.proofs.posts_read_their_arguments.Goals as goal
 
 pub returns : goal.returns

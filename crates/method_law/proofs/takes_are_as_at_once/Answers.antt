@@ -1,4 +1,4 @@
-use Rattle.method_law.proofs.TakeSame.{take-same}
+use Rattle.method_law.proofs.Posts.Takes.{take-same}
 use Rattle.method_law.proofs.takes_are_as_at_once.Goals as goal
 
 pub returns : goal.returns

@@ -21,7 +21,7 @@ ret
 task 3, 3
 ";
 
-const POSTS_TO_4: &str = "method direct
+pub(super) const POSTS_TO_4: &str = "method direct
 0 start a
 1 call a OSSemPend 0 0 0
 1 wait a OSSemPend
@@ -194,7 +194,7 @@ ret
 task 3, 3
 ";
 
-const LITERAL_TO_4: &str = "method direct
+pub(super) const LITERAL_TO_4: &str = "method direct
 0 start a
 1 call a OSSemPend 0 0 0
 1 wait a OSSemPend

@@ -1,26 +1,11 @@
 // What the program prints where posts go through the queue.
 
-use super::{Given, answer};
+use super::interrupts::OVERFLOW;
+use super::{Given, answer, handler_with};
 use std::test::Fail;
 use ucos_top::Status;
 
 // A post to a waiting task is performed by the handler.
-const POST: &str = ".code
-go: li a0, 0
-li a1, 0
-os OSSemPend
-j go
-v: li a0, 0
-li a1, 0
-os OSSemPost
-ret
-.sem s, 0
-.task a, go, 10, 0, 0, 0x140000
-.vector 3, 2, v, 0x13F000
-.inject
-task 6, 3
-";
-
 const POST_TO_11: &str = "0 0 start a
 3 3 call a OSSemPend 0 0 0
 9 3 wait a OSSemPend
@@ -32,39 +17,6 @@ const POST_TO_11: &str = "0 0 start a
 24 6 sw idle a
 25 6 ret a OSSemPend OS_ERR_NONE 0
 30 11 end
-";
-
-// An interrupt enters in the middle of a wait, and its post waits for the end of it.
-const MIDDLE: &str = ".code
-go: os OSSemPend
-j go
-v: os OSSemPost
-ret
-.sem s, 0
-.task a, go, 10, 0, 0, 0x140000
-.task b, go, 20, 0, 0, 0x13E000
-.task c, go, 30, 0, 0, 0x13D000
-.vector 3, 2, v, 0x13F000
-.inject
-step 23, 3
-";
-
-const MIDDLE_TO_7: &str = "0 0 start a
-1 1 call a OSSemPend 0 0 0
-7 1 wait a OSSemPend
-7 1 sw a b
-9 3 call b OSSemPend 0 0 0
-16 3 wait b OSSemPend
-16 3 sw b c
-18 5 call c OSSemPend 0 0 0
-23 5 irq 3 2
-24 5 post 3 OSSemPost 0 0 OS_ERR_NONE 0
-25 5 exit 3 ret
-29 5 wait c OSSemPend
-37 6 take OSSemPost 0 0 OS_ERR_NONE 0
-37 6 sw c a
-38 6 ret a OSSemPend OS_ERR_NONE 0
-39 7 end
 ";
 
 // Three posts in one burst, over a queue of two: the third is lost.
@@ -213,17 +165,6 @@ const PLACE_TO_2: [(&str, &str); 6] = [
 ];
 
 // A count that can not rise is told by the take, and not to the interrupt handler.
-const OVERFLOW: &str = ".code
-go: j go
-v: os OSSemPost
-ret
-.sem s, 4294967295
-.task a, go, 10, 0, 0, 0x140000
-.vector 3, 2, v, 0x13F000
-.inject
-task 1, 3
-";
-
 const OVERFLOW_TO_2: &str = "0 0 start a
 1 1 irq 3 2
 2 1 post 3 OSSemPost 0 0 OS_ERR_NONE 0
@@ -234,15 +175,16 @@ const OVERFLOW_TO_2: &str = "0 0 start a
 
 #[test]
 fn posts_are_performed_when_they_are_taken(rt: HostRuntime) -> Result<(), Fail> {
+    let alloc = rt.alloc();
+    let post = handler_with(alloc, "task 6, 3\n")?;
     for (words, text, written) in [
-        ("run deferred 11", POST, POST_TO_11),
-        ("run deferred 7", MIDDLE, MIDDLE_TO_7),
-        ("run deferred 3", BURST, BURST_TO_3),
-        ("run deferred 2", OVERFLOW, OVERFLOW_TO_2),
+        ("run deferred 11", post.as_slice(), POST_TO_11),
+        ("run deferred 3", BURST.as_bytes(), BURST_TO_3),
+        ("run deferred 2", OVERFLOW.as_bytes(), OVERFLOW_TO_2),
     ] {
-        let (status, held) = answer(rt.alloc(), &Given::new(words, text.as_bytes()))?;
-        assert_eq!(rt; status, Status::Done, "{words} on {text}");
-        assert_eq!(rt; held.as_slice(), written.as_bytes(), "{words} on {text}");
+        let (status, held) = answer(alloc, &Given::new(words, text))?;
+        assert_eq!(rt; status, Status::Done, "{words}");
+        assert_eq!(rt; held.as_slice(), written.as_bytes(), "{words}");
     }
     Ok(())
 }

@@ -1,28 +1,10 @@
 // What the program answers on texts with injections.
 
-use super::{Given, answer};
-use std::alloc::Global;
+use super::{Given, answer, handler_with};
 use std::test::Fail;
 use ucos_top::Status;
 
-// A task that waits, and an interrupt handler that posts, up to the lines for injections, which begin at
-// line 14.
-const HANDLER: &str = ".code
-go: li a0, 0
-li a1, 0
-os OSSemPend
-j go
-v: li a0, 0
-li a1, 0
-os OSSemPost
-ret
-.sem s, 0
-.task a, go, 10, 0, 0, 0x140000
-.vector 3, 2, v, 0x13F000
-.inject
-";
-
-// Its run with a post to a waiting task, as the idle task runs.
+// The run of the handler with a post to a waiting task, as the idle task runs.
 const POST_TO_11: &str = "0 0 start a
 3 3 call a OSSemPend 0 0 0
 9 3 wait a OSSemPend
@@ -33,39 +15,6 @@ const POST_TO_11: &str = "0 0 start a
 16 6 sw idle a
 17 6 ret a OSSemPend OS_ERR_NONE 0
 22 11 end
-";
-
-// An interrupt that is due in the middle of a service waits for its end.
-const MIDDLE: &str = ".code
-go: os OSSemPend
-j go
-v: os OSSemPost
-ret
-.sem s, 0
-.task a, go, 10, 0, 0, 0x140000
-.task b, go, 20, 0, 0, 0x13E000
-.task c, go, 30, 0, 0, 0x13D000
-.vector 3, 2, v, 0x13F000
-.inject
-step 23, 3
-";
-
-const MIDDLE_TO_7: &str = "0 0 start a
-1 1 call a OSSemPend 0 0 0
-7 1 wait a OSSemPend
-7 1 sw a b
-9 3 call b OSSemPend 0 0 0
-16 3 wait b OSSemPend
-16 3 sw b c
-18 5 call c OSSemPend 0 0 0
-26 5 wait c OSSemPend
-26 5 sw c idle
-27 6 irq 3 2
-28 6 post 3 OSSemPost 0 0 OS_ERR_NONE 0
-29 6 exit 3 ret
-29 6 sw idle a
-30 6 ret a OSSemPend OS_ERR_NONE 0
-31 7 end
 ";
 
 // A handler of a higher level enters over another; one of a lower level waits for its exit.
@@ -107,7 +56,7 @@ const LEVELS_TO_4: &str = "0 0 start b
 ";
 
 // A post to a semaphore at its highest count.
-const OVERFLOW: &str = ".code
+pub(super) const OVERFLOW: &str = ".code
 go: j go
 v: os OSSemPost
 ret
@@ -258,17 +207,9 @@ const BEHIND_INJECT: [(&str, &str); 22] = [
     ("task 6, 3 @", "refused 14 L1\n"),
 ];
 
-// The first text with these lines for injections.
-fn handler_with(alloc: Global, behind: &str) -> Result<Vec<u8>, Fail> {
-    let mut text = HANDLER.as_bytes().to_vec(alloc)?;
-    text.extend_from_slice(behind.as_bytes())?;
-    Ok(text)
-}
-
 #[test]
 fn interrupts_enter_at_their_moments(rt: HostRuntime) -> Result<(), Fail> {
     for (words, text, written) in [
-        ("run direct 7", MIDDLE, MIDDLE_TO_7),
         ("run direct 4", LEVELS, LEVELS_TO_4),
         ("run direct 2", OVERFLOW, OVERFLOW_TO_2),
         ("run direct 2", SEVEN, SEVEN_TO_2),

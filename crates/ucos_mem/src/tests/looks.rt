@@ -1,5 +1,6 @@
 // What the program tells of looks at lists.
 
+use super::both::{LITERAL_TO_4, POSTS_TO_4};
 use super::{Given, answer};
 use std::test::Fail;
 use ucos_top::Status;
@@ -63,8 +64,8 @@ const WAITS_TO_12: &str = "0 0 start a
 37 12 end
 ";
 
-// A look in the middle of a service, where the post of an interrupt waits in the queue: nothing of it is done yet, and the
-// third task stands in the forward chain alone.
+// An interrupt is due in the middle of a wait. By the deferred method it enters there and its post waits in the queue for the
+// end of the service, so a look finds nothing of it done, and the third task in the forward chain alone.
 const MIDDLE: &str = ".code
 go: os OSSemPend
 j go
@@ -99,7 +100,7 @@ const MIDDLE_DEFERRED_7: &str = "0 0 start a
 39 7 end
 ";
 
-// By the direct method the interrupt comes behind the service, and its post has not been yet.
+// By the direct method the interrupt waits for the end of the service, and at the look its post has not been yet.
 const MIDDLE_DIRECT_7: &str = "0 0 start a
 1 1 call a OSSemPend 0 0 0
 7 1 wait a OSSemPend
@@ -172,36 +173,7 @@ const POSTED_DEFERRED_4: &str = "0 0 start a
 21 4 end
 ";
 
-// A woken task of the interrupted priority goes to the tail of its list.
-const TAIL: &str = ".code
-go: os OSSemPend
-j go
-x: j x
-v: os OSSemPost
-ret
-.sem s, 0
-.task a, go, 10, 0, 0, 0x140000
-.task b, x, 10, 0, 0, 0x13E000
-.task c, x, 10, 0, 0, 0x13D000
-.vector 3, 2, v, 0x13F000
-.inject
-task 3, 3
-look 20, 10
-";
-
-const TAIL_TO_4: &str = "0 0 start a
-1 1 call a OSSemPend 0 0 0
-7 1 wait a OSSemPend
-7 1 sw a b
-9 3 irq 3 2
-10 3 post 3 OSSemPost 0 0 OS_ERR_NONE 0
-11 3 exit 3 ret
-19 3 take OSSemPost 0 0 OS_ERR_NONE 0
-20 3 look 10 fwd 1 2 0 back 0 2 1
-21 4 end
-";
-
-// With the literal insertion rule it goes to the head.
+// With the literal insertion rule the woken task goes to the head of its list.
 const HEAD: &str = ".code
 go: os OSSemPend
 j go
@@ -233,52 +205,6 @@ const HEAD_TO_4: &str = "0 0 start a
 21 4 end
 ";
 
-// Histories have no looks.
-const TAIL_BOTH_4: &str = "method direct
-0 start a
-1 call a OSSemPend 0 0 0
-1 wait a OSSemPend
-1 sw a b
-3 irq 3 2
-4 end
-method deferred
-0 start a
-1 call a OSSemPend 0 0 0
-1 wait a OSSemPend
-1 sw a b
-3 irq 3 2
-4 end
-P1 held
-P2 held
-P3 held
-P4 held
-raw 13 21
-";
-
-const HEAD_BOTH_4: &str = "method direct
-0 start a
-1 call a OSSemPend 0 0 0
-1 wait a OSSemPend
-1 sw a b
-3 irq 3 2
-4 end
-method deferred
-0 start a
-1 call a OSSemPend 0 0 0
-1 wait a OSSemPend
-1 sw a b
-3 irq 3 2
-3 sw b a
-3 ret a OSSemPend OS_ERR_NONE 0
-4 end
-P1 held
-P2 held
-P3 held
-P4 held
-P5 broken 19
-raw 13 21
-";
-
 #[test]
 fn looks_tell_both_directions_of_a_list(rt: HostRuntime) -> Result<(), Fail> {
     for (words, text, status, written) in [
@@ -288,10 +214,10 @@ fn looks_tell_both_directions_of_a_list(rt: HostRuntime) -> Result<(), Fail> {
         ("run direct 7", MIDDLE, Status::Done, MIDDLE_DIRECT_7),
         ("run direct 4", POSTED, Status::Done, POSTED_DIRECT_4),
         ("run deferred 4", POSTED, Status::Done, POSTED_DEFERRED_4),
-        ("run deferred 4", TAIL, Status::Done, TAIL_TO_4),
         ("run deferred 4", HEAD, Status::Done, HEAD_TO_4),
-        ("both 4", TAIL, Status::Done, TAIL_BOTH_4),
-        ("both 4", HEAD, Status::Broken, HEAD_BOTH_4),
+        // histories have no looks
+        ("both 4", POSTED, Status::Done, POSTS_TO_4),
+        ("both 4", HEAD, Status::Broken, LITERAL_TO_4),
     ] {
         let (got, held) = answer(rt.alloc(), &Given::new(words, text.as_bytes()))?;
         assert_eq!(rt; got, status, "{words} on {text}");

@@ -2,7 +2,7 @@
 use Rattle.std.proofs.Common.{◌≡◌, ◌≤◌, ◌<◌, length, true, ap, refl, sym, ◌∙◌, arith}
 use Rattle.std.proofs.lemmas.Bool.Decides.{nat_tests}
 use Rattle.inject_list.specs.Lists.{is_declared}
-use Rattle.inject_list.specs.Stage.{entries, four_words}
+use Rattle.inject_list.specs.Reading.{entries, four_words}
 use Rattle.inject_list.specs.Given.{moment_at}
 use Rattle.inject_list.specs.declared.words.Words.{Words}
 use Rattle.inject_list.proofs.GivenLaws.{declared_small, kept_whole, in_time, interrupt_free}

@@ -1,7 +1,7 @@
 -- none before here has the name
 use Rattle.std.proofs.Common.{◌≡◌, ◌+◌, drop}
 use Rattle.std.specs.List.{position_or_len}
-use Rattle.inject_list.specs.Stage.{is_seen_as}
+use Rattle.inject_list.specs.Reading.{is_seen_as}
 use Rattle.inject_list.proofs.entries.object_named.Given as goal
 
 abbrev pub invariant-loop-number : goal.invariant-loop-number

@@ -5,7 +5,7 @@ use Rattle.text_lex.specs.declared.Token.{Token}
 use Rattle.text_lex.specs.declared.TokenKind.TheVariants.{Name}
 use Rattle.inject_list.specs.Pieces.{pieces}
 use Rattle.inject_list.specs.Entries.{Entry, entry_of, form}
-use Rattle.inject_list.specs.Stage.{cause_of}
+use Rattle.inject_list.specs.Reading.{cause_of}
 use Rattle.inject_list.specs.Given.{IsGiven}
 use Rattle.inject_list.proofs.FormLaws.{entry_line, entry_line_without}
 use Rattle.inject_list.proofs.forms.given_by.Goals as goal

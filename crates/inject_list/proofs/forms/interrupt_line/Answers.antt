@@ -5,7 +5,7 @@ use Rattle.text_lex.specs.declared.Token.{Token}
 use Rattle.text_lex.specs.declared.TokenKind.TheVariants.{Name}
 use Rattle.inject_list.specs.Pieces.{pieces}
 use Rattle.inject_list.specs.Entries.{Entry, Interrupt, interrupt_form, words_of}
-use Rattle.inject_list.specs.Stage.{cause_of}
+use Rattle.inject_list.specs.Reading.{cause_of}
 use Rattle.inject_list.specs.Given.{IsGiven, moment_at}
 use Rattle.inject_list.proofs.FormLaws.{one_piece, interrupt_some, interrupt_no_vector, words_from}
 use Rattle.inject_list.proofs.forms.interrupt_line.Goals as goal

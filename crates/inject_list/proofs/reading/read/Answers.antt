@@ -3,7 +3,7 @@ use Rattle.std.proofs.Common.{◌≡◌, ◌-◌, ◌+◌, List, ◌∷◌, take
 use Rattle.std.proofs.lemmas.Result.{err_from_is_err_and}
 use Rattle.text_lex.specs.declared.Token.{Token}
 use Rattle.inject_list.specs.Pieces.{lines}
-use Rattle.inject_list.specs.Stage.{read_from, injections_in, IsFault}
+use Rattle.inject_list.specs.Reading.{read_from, injections_in, IsFault}
 use Rattle.inject_list.specs.declared.causes.InjectError.{InjectError}
 use Rattle.inject_list.proofs.LineLaws.{lines-at, reads_on, fault_stops}
 use Rattle.inject_list.proofs.reading.read.Goals as goal

@@ -2,7 +2,7 @@
 use Rattle.std.proofs.Common.{◌≡◌, ◌+◌, ◌-◌, ◌≤◌, length, drop}
 use Rattle.inject_list.specs.Lists.{IsValidList}
 use Rattle.inject_list.specs.Pieces.{lines}
-use Rattle.inject_list.specs.Stage.{read_from, injections_in}
+use Rattle.inject_list.specs.Reading.{read_from, injections_in}
 use Rattle.inject_list.proofs.reading.read.Given as goal
 
 abbrev pub invariant-loop-at : goal.invariant-loop-at

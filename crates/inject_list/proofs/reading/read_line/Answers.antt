@@ -4,7 +4,7 @@ use Rattle.std.proofs.lemmas.Result.{on_ok_weaker}
 use Rattle.inject_list.specs.Lists.{ListRecord, IsValidList}
 use Rattle.inject_list.specs.Pieces.{pieces}
 use Rattle.inject_list.specs.Entries.{entry_of}
-use Rattle.inject_list.specs.Stage.{entries}
+use Rattle.inject_list.specs.Reading.{entries}
 use Rattle.inject_list.specs.Given.{with_given}
 use Rattle.inject_list.proofs.ValidLaws.{valid_line}
 use Rattle.inject_list.proofs.reading.read_line.Goals as goal

@@ -1,4 +1,4 @@
-use Rattle.link_plans.proofs.CallTells.{block_tells, block_knows}
+use Rattle.link_plans.proofs.Calls.Tells.{block_tells, block_knows}
 use Rattle.link_plans.proofs.laws.a_block_tells.Goals as goal
 
 pub returns : goal.returns

@@ -1,4 +1,4 @@
-use Rattle.link_plans.proofs.NodeLaws.{waiter_can_wake}
+use Rattle.link_plans.proofs.Nodes.Waiters.{waiter_can_wake}
 use Rattle.link_plans.proofs.laws.a_waiter_can_wake.Goals as goal
 
 pub returns : goal.returns

@@ -1,4 +1,4 @@
-use Rattle.link_plans.proofs.CallRenews.{block_renews, plain_renews, wakes_renew}
+use Rattle.link_plans.proofs.Calls.Renews.{block_renews, plain_renews, wakes_renew}
 use Rattle.link_plans.proofs.laws.calls_renew.Goals as goal
 
 pub returns : goal.returns

@@ -1,4 +1,4 @@
-use Rattle.link_plans.proofs.Follows.{links_lead_on}
+use Rattle.link_plans.proofs.Calls.Follows.{links_lead_on}
 use Rattle.link_plans.proofs.laws.links_lead.Goals as goal
 
 pub returns : goal.returns

@@ -1,4 +1,4 @@
-use Rattle.link_plans.proofs.MatchLaws.{matching-row}
+use Rattle.link_plans.proofs.Matching.Links.{matching-row}
 use Rattle.link_plans.proofs.laws.matching_are_blocks.Goals as goal
 
 pub returns : goal.returns

@@ -1,4 +1,4 @@
-use Rattle.link_plans.proofs.MatchFacts.{are_wakes, matching-change}
+use Rattle.link_plans.proofs.Matching.Wakes.{are_wakes, matching-change}
 use Rattle.link_plans.proofs.laws.matching_are_wakes.Goals as goal
 
 pub returns : goal.returns

@@ -1,4 +1,4 @@
-use Rattle.link_plans.proofs.MatchLaws.{matching_end, matching_fit}
+use Rattle.link_plans.proofs.Matching.Links.{matching_end, matching_fit}
 use Rattle.link_plans.proofs.laws.matching_fit.Goals as goal
 
 pub returns : goal.returns

@@ -1,4 +1,4 @@
-use Rattle.link_plans.proofs.MovesWritten.{renewal-told, renewal-written}
+use Rattle.link_plans.proofs.Renewals.Written.{renewal-told, renewal-written}
 use Rattle.link_plans.proofs.laws.moves_are_written.Goals as goal
 
 pub returns : goal.returns

@@ -1,4 +1,4 @@
-use Rattle.link_plans.proofs.Rows.{wakes-row}
+use Rattle.link_plans.proofs.Plans.Links.{wakes-row}
 use Rattle.link_plans.proofs.laws.wakes_are_blocks.Goals as goal
 
 pub returns : goal.returns

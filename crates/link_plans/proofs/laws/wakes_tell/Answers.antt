@@ -1,4 +1,4 @@
-use Rattle.link_plans.proofs.CallTells.{matching_tell, objects-woken, wakes_tell}
+use Rattle.link_plans.proofs.Calls.Tells.{matching_tell, objects-woken, wakes_tell}
 use Rattle.link_plans.proofs.laws.wakes_tell.Goals as goal
 
 pub returns : goal.returns

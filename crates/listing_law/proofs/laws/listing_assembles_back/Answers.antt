@@ -1,4 +1,4 @@
-use Rattle.listing_law.proofs.Whole.{every_listing_assembles_back}
+use Rattle.listing_law.proofs.Accepted.Whole.{every_listing_assembles_back}
 use Rattle.listing_law.proofs.laws.listing_assembles_back.Goals as goal
 
 -- the law, whole

@@ -9,8 +9,8 @@ use Rattle.rv32_asm.proofs.TokenCount.{token_count}
 use Rattle.rv32_asm.proofs.Made.{is_made}
 use Rattle.rv32_asm.proofs.assembling.assemble.Goals as goal
 
-pub assemble_few-requires : goal.assemble_few-requires
-assemble_few-requires c = let few : length c.args.tokens.now ≤ length c.args.text.now + 1 = token_count c.args.text.now c.args.tokens.now c.requires.tokens in omega (arith, few, c.requires.short)
+pub assemble_few-requires-clause-few : goal.assemble_few-requires-clause-few
+assemble_few-requires-clause-few c = let few : length c.args.tokens.now ≤ length c.args.text.now + 1 = token_count c.args.text.now c.args.tokens.now c.requires.tokens in omega (arith, few, c.requires.short)
 
 pub returns-clause-made : goal.returns-clause-made
 returns-clause-made c =

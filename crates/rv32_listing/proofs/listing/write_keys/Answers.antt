@@ -5,7 +5,7 @@ use Rattle.std.proofs.lemmas.Result.{err_from_is_err_and}
 use Rattle.std.specs.List.{flat_map}
 use Rattle.app_image.specs.declared.settings.ConfigKey.TheVariants.{IsrLimit}
 use Rattle.outside.proofs.Known.{AppendsPrefix-after}
-use Rattle.rv32_asm.specs.Tables.{row_of}
+use Rattle.asm_lines.specs.Tables.{row_of}
 use Rattle.rv32_listing.specs.Disassembly.{setting_line}
 use Rattle.rv32_listing.proofs.Sent.{keys_more, short_key}
 use Rattle.rv32_listing.proofs.listing.write_keys.Goals as goal

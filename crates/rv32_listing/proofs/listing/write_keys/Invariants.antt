@@ -1,7 +1,7 @@
 use Rattle.std.proofs.Common.{◌≡◌, ◌++◌, ◌≤◌, ℕ, List, drop, map}
 use Rattle.std.specs.List.{flat_map}
 use Rattle.std.specs.Io.KnownBytes.{Appends}
-use Rattle.rv32_asm.specs.Tables.{row_of}
+use Rattle.asm_lines.specs.Tables.{row_of}
 use Rattle.rv32_listing.specs.Disassembly.{setting_line}
 use Rattle.rv32_listing.proofs.listing.write_keys.Given as goal
 

@@ -9,7 +9,7 @@ returns-clause-around g c =
     let first = rw (← c.self.view_is) at c.first_waiter.ensures in
     rw (← c.self.view_is)
     (record {
-      locked = is-locked c.lock.result ∙ ap (λ n. not (n == 0)) c.lock.ensures;
+      locked = is-locked c.lock.result ∙ ap (λ n. not (n == 0)) c.lock.ensures.value;
       first = first;
       prio = ap (λ (t : Task). t.prio) c.tcb.ensures.task;
     })

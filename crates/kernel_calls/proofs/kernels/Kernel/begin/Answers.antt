@@ -16,6 +16,7 @@ use Rattle.task_objects.specs.Rows.{is_task_call}
 use Rattle.link_plans.specs.declared.plan.Plan.{Plan}
 use Rattle.kernel_records.specs.Deciding.{IsServedDecision, decision_of, own_change, waiters_of}
 use Rattle.kernel_records.specs.Concluding.{objects_waited, woken_of}
+use Rattle.kernel_records.specs.SchedulerCalls.{is_scheduler_call}
 use Rattle.kernel_records.specs.Served.{IsServed}
 use Rattle.kernel_records.proofs.RowFacts.{waiters-object}
 use Rattle.kernel_calls.specs.Works.{WorkRecord, begun, effect_of}
@@ -73,8 +74,8 @@ invariant_of-self g c =
     let value : q.decision ≡ decision_of r seen k = decision ∙ c.decide-decision.ensures.value ∙ decision-lists r seen rs (lists_of k) in
     let served : IsServedDecision q.decision r.service = subst (λ e. IsServedDecision e r.service) (sym decision) c.decide-decision.ensures.served in
     let pend = c.pend-pend.ensures.forward ∙ ap (λ (a : Halves). a.forward.pend) (c.chains.ensures.0 ∙ rest.halves) in
-    let object : is_task_call r.service ≡ false → ws ≡ list_at (tasks_in c.pend-pend.result.now.forward) (argument r 0) =
-    λ t. waiters-object r x k t ∙ all-waiters (length k.objects) start.pend (argument r 0) c.self.invariant.nodes.past
+    let object : is_scheduler_call r.service ≡ false → is_task_call r.service ≡ false → ws ≡ list_at (tasks_in c.pend-pend.result.now.forward) (argument r 0) =
+    λ n t. waiters-object r x k n t ∙ all-waiters (length k.objects) start.pend (argument r 0) c.self.invariant.nodes.past
     ∙ ap (λ lists. list_at (tasks_in lists) (argument r 0)) (sym pend) in
     let woken : q.woken.items ≡ woken_of q.decision ws = c.plan_call.ensures.woken ws around.first object ∙ ap (λ e. woken_of e ws) (sym decision) in
     let objects : q.objects.items ≡ objects_waited q.decision r = c.plan_call.ensures.objects ∙ ap (λ e. objects_waited e r) (sym decision) in

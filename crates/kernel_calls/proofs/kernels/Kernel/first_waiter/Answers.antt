@@ -1,20 +1,29 @@
-use Rattle.std.proofs.Common.{◌≡◌, ◌∙◌, ap, sym, length}
+use Rattle.std.proofs.Common.{◌≡◌, ◌∙◌, ap, sym, length, true, false}
 use Rattle.kern_model.specs.State.{list_at}
-use Rattle.kern_model.specs.Micro.{Halves}
+use Rattle.kern_model.specs.Micro.{Halves, lists_of}
 use Rattle.kern_model.specs.Checks.{argument}
 use Rattle.micro_steps.specs.Halfway.{tasks_in}
 use Rattle.decisions.specs.Around.{first_waiter}
-use Rattle.kernel_records.proofs.RowFacts.{waiters-object, waiters-task}
+use Rattle.kernel_records.specs.SchedulerCalls.{is_scheduler_call}
+use Rattle.kernel_records.proofs.DecidingFacts.{scheduler-waiters}
+use Rattle.kernel_records.proofs.RowFacts.{waiters-object, waiters-scheduler, waiters-task}
 use Rattle.kernel_calls.specs.KernelView.{state_with}
 use Rattle.kernel_calls.proofs.PlanningFacts.{all-waiters}
 use Rattle.kernel_calls.proofs.StepFacts.{at-rest, free-of}
 use Rattle.kernel_calls.proofs.kernels.Kernel.first_waiter.Goals as goal
 
+pub returns-then-is_scheduler_call : goal.returns-then-is_scheduler_call
+returns-then-is_scheduler_call g c =
+    let k = state_with c.self.inside.records.state c.self.inside.steps.start in
+    rw (← c.self.view_is)
+    (c.delayed_task.ensures
+    ∙ ap first_waiter (scheduler-waiters c.args.request.now.service c.args.request.now c.args.caller.0 c.self.inside.records.state (lists_of k) ∙ sym (waiters-scheduler c.args.request.now c.args.caller.0 k (sym c.is_scheduler_call.ensures ∙ c.if-is_scheduler_call.true))))
+
 pub returns-then-is_task_call : goal.returns-then-is_task_call
 returns-then-is_task_call g c =
     let k = state_with c.self.inside.records.state c.self.inside.steps.start in
     rw (← c.self.view_is)
-    (c.own_waiter.ensures ∙ ap first_waiter (sym (waiters-task c.args.request.now c.args.caller.0 k (sym c.is_task_call.ensures ∙ c.if-is_task_call.true))))
+    (c.own_waiter.ensures ∙ ap first_waiter (sym (waiters-task c.args.request.now c.args.caller.0 k (sym c.is_scheduler_call.ensures ∙ c.if-is_scheduler_call.false) (sym c.is_task_call.ensures ∙ c.if-is_task_call.true))))
 
 pub returns-else-is_task_call : goal.returns-else-is_task_call
 returns-else-is_task_call g c =
@@ -27,4 +36,4 @@ returns-else-is_task_call g c =
     c.first_waiter.ensures ∙ ap (λ lists. first_waiter (list_at (tasks_in lists) o)) pend
     ∙ ap first_waiter (sym (all-waiters (length k.objects) c.self.inside.steps.start.pend o c.self.invariant.nodes.past)) in
     rw (← c.self.view_is)
-    (first ∙ ap first_waiter (sym (waiters-object c.args.request.now c.args.caller.0 k (sym c.is_task_call.ensures ∙ c.if-is_task_call.false))))
+    (first ∙ ap first_waiter (sym (waiters-object c.args.request.now c.args.caller.0 k (sym c.is_scheduler_call.ensures ∙ c.if-is_scheduler_call.false) (sym c.is_task_call.ensures ∙ c.if-is_task_call.false))))

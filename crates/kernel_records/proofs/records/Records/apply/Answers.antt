@@ -1,72 +1,24 @@
-use Rattle.std.proofs.Common.{◌≡◌, ◌<◌, ap, sym, ◌∙◌, subst, true, false}
+use Rattle.std.proofs.Common.{◌≡◌, ap, sym, ◌∙◌, true, false}
 use Rattle.kern_model.specs.State.{Kernel}
-use Rattle.message_store.specs.Store.{after_own_call, own_at}
-use Rattle.task_objects.specs.Rows as own
-use Rattle.task_objects.specs.Rows.{is_task_call, target}
 use Rattle.kernel_records.specs.RecordsRecord.{RecordsRecord}
-use Rattle.kernel_records.specs.RecordsView.{records_of, state_of}
-use Rattle.kernel_records.proofs.DecidingFacts.{acting, by-object, by-task, changed-task, own-acts, passed-call, passed-inside}
-use Rattle.kernel_records.proofs.TaskCalls.{own-decision, records-own, target-below}
+use Rattle.kernel_records.specs.SchedulerCalls.{is_scheduler_call}
+use Rattle.kernel_records.proofs.DecidingFacts.{own-acts, own-scheduler}
+use Rattle.kernel_records.proofs.SchedulerFacts.{lock-below}
 use Rattle.kernel_records.proofs.records.Records.apply.Goals as goal
 
-pub target-requires : goal.target-requires
-target-requires c =
-    let r = c.args.request.now in
-    let it = acting r c.args.seen.now c.args.decision.now c.args.self.now.state c.requires.decided c.requires.acts in
-    let t : is_task_call r.service ≡ true = sym c.is_task_call.ensures ∙ c.if-is_task_call.true in
-    target-below c.self.inside r c.args.seen.now.caller.0 c.self.invariant c.requires.caller it.served t (rw (← c.self.view_is) at it.passed)
+pub change_lock-requires : goal.change_lock-requires
+change_lock-requires c = λ s a. lock-below c.args.request.now c.args.seen.now c.args.decision.now c.args.self.now.state s c.requires.decided a
 
-pub apply_own-requires-clause-number : goal.apply_own-requires-clause-number
-apply_own-requires-clause-number c =
-    let r = c.args.request.now in
-    let it = acting r c.args.seen.now c.args.decision.now c.args.self.now.state c.requires.decided c.requires.acts in
-    let t : is_task_call r.service ≡ true = sym c.is_task_call.ensures ∙ c.if-is_task_call.true in
-    subst (λ n. n < 64) (sym c.target.ensures) (target-below c.self.inside r c.args.seen.now.caller.0 c.self.invariant c.requires.caller it.served t (rw (← c.self.view_is) at it.passed))
+pub returns-then-is_scheduler_call : goal.returns-then-is_scheduler_call
+returns-then-is_scheduler_call c =
+    let n : is_scheduler_call c.args.request.now.service ≡ true = sym c.is_scheduler_call.ensures ∙ c.if-is_scheduler_call.true in
+    let k = c.args.self.now.state in
+    c.change_lock.ensures
+    ∙ ap (λ (j : Kernel). let a : RecordsRecord = record { state = j; registers = c.args.self.now.registers } in a) (sym (own-scheduler c.args.request.now c.args.seen.now.caller.0 c.args.decision.now k n))
 
-pub apply_own-requires-clause-decided : goal.apply_own-requires-clause-decided
-apply_own-requires-clause-decided c =
-    let r = c.args.request.now in
-    let seen = c.args.seen.now in
-    let a = c.self.inside in
-    let it = acting r seen c.args.decision.now c.args.self.now.state c.requires.decided c.requires.acts in
-    let t : is_task_call r.service ≡ true = sym c.is_task_call.ensures ∙ c.if-is_task_call.true in
-    let told = it.decided ∙ by-task r seen c.args.self.now.state t in
-    let about = rw (← c.self.view_is) at told in
-    about
-    ∙ own-decision a r seen.caller.0 c.self.invariant c.requires.caller it.served t (rw (← c.self.view_is) at it.passed) seen
-    ∙ ap (λ y. own.decision_of (own_at a.messages y).count (own_at a.messages y).limit (own_at a.messages y).messages a.messages.free r seen) (sym c.target.ensures)
-
-pub returns-then-is_task_call : goal.returns-then-is_task_call
-returns-then-is_task_call c =
-    let r = c.args.request.now in
-    let seen = c.args.seen.now in
-    let x = seen.caller.0 in
-    let d = c.args.decision.now in
-    let a = c.self.inside in
-    let it = acting r seen d c.args.self.now.state c.requires.decided c.requires.acts in
-    let t : is_task_call r.service ≡ true = sym c.is_task_call.ensures ∙ c.if-is_task_call.true in
-    let store = c.apply_own.ensures ∙ ap (λ y. after_own_call a.messages y r d) c.target.ensures in
-    rw (← c.self.view_is)
-    (records-own a r x c.self.invariant c.requires.caller it.served t (rw (← c.self.view_is) at it.passed) d c.apply_own.new.self store
-    ∙ ap (λ (k : Kernel). let b : RecordsRecord = record (records_of a) { state = k } in b) (sym (own-acts r x d (state_of a) c.requires.acts ∙ changed-task r x d (state_of a) t)))
-
-pub apply_to_object-requires-clause-object : goal.apply_to_object-requires-clause-object
-apply_to_object-requires-clause-object c =
-    let r = c.args.request.now in
-    let it = acting r c.args.seen.now c.args.decision.now c.args.self.now.state c.requires.decided c.requires.acts in
-    let t : is_task_call r.service ≡ false = sym c.is_task_call.ensures ∙ c.if-is_task_call.false in
-    passed-inside r c.args.seen.now.caller.0 c.args.self.now.state it.served t it.passed
-
-pub apply_to_object-requires-clause-call : goal.apply_to_object-requires-clause-call
-apply_to_object-requires-clause-call c =
-    let r = c.args.request.now in
-    let it = acting r c.args.seen.now c.args.decision.now c.args.self.now.state c.requires.decided c.requires.acts in
-    let t : is_task_call r.service ≡ false = sym c.is_task_call.ensures ∙ c.if-is_task_call.false in
-    passed-call r c.args.seen.now.caller.0 c.args.self.now.state it.served t it.passed
-
-pub apply_to_object-requires-clause-decided : goal.apply_to_object-requires-clause-decided
-apply_to_object-requires-clause-decided c =
-    let r = c.args.request.now in
-    let it = acting r c.args.seen.now c.args.decision.now c.args.self.now.state c.requires.decided c.requires.acts in
-    let t : is_task_call r.service ≡ false = sym c.is_task_call.ensures ∙ c.if-is_task_call.false in
-    it.decided ∙ by-object r c.args.seen.now c.args.self.now.state t
+pub returns-else-is_scheduler_call : goal.returns-else-is_scheduler_call
+returns-else-is_scheduler_call c =
+    let n : is_scheduler_call c.args.request.now.service ≡ false = sym c.is_scheduler_call.ensures ∙ c.if-is_scheduler_call.false in
+    let k = c.args.self.now.state in
+    c.apply_to_objects.ensures
+    ∙ ap (λ (j : Kernel). let a : RecordsRecord = record { state = j; registers = c.args.self.now.registers } in a) (sym (own-acts c.args.request.now c.args.seen.now.caller.0 c.args.decision.now k n (c.requires.acts n)))

@@ -46,6 +46,7 @@ invariant_of-self c =
       queues = ap (λ (m : Store). length m.queues) store ∙ length-set a.messages.queues n (queue_at s n) ∙ c.self.invariant.queues ∙ sym count;
       own = ap (λ (m : Store). length m.own) store ∙ c.self.invariant.own;
       tasks = c.self.invariant.tasks;
+      lock = c.self.invariant.lock;
     }
 
 pub returns : goal.returns

@@ -34,6 +34,7 @@ invariant_of-self c =
       queues = c.self.invariant.queues ∙ sym size;
       own = c.self.invariant.own;
       tasks = c.self.invariant.tasks;
+      lock = c.self.invariant.lock;
     }
 
 pub returns : goal.returns

@@ -1,49 +1,32 @@
-use Rattle.std.proofs.Common.{◌≡◌, ◌<◌, ap, sym, ◌∙◌, subst, true}
-use Rattle.message_store.specs.Store.{own_at}
-use Rattle.task_objects.specs.Rows as own
-use Rattle.task_objects.specs.Rows.{Holds, IsTaskDecided, is_task_call, target}
-use Rattle.kern_model.specs.State.{task_at}
-use Rattle.kernel_records.specs.RecordsView.{state_of}
-use Rattle.kernel_records.proofs.DecidingFacts.{by-task}
-use Rattle.kernel_records.proofs.RowFacts.{row-task}
-use Rattle.kernel_records.proofs.TaskCalls.{holds, own-decision, target-below}
+use Rattle.std.proofs.Common.{◌≡◌, sym, ◌∙◌, true, false, subst}
+use Rattle.kern_base.specs.declared.outcomes.Decision.{Decision}
+use Rattle.kernel_records.specs.Deciding.{IsServedDecision}
+use Rattle.kernel_records.specs.SchedulerCalls.{is_scheduler_call}
+use Rattle.kernel_records.proofs.DecidingFacts.{about-objects, about-scheduler, serves-by}
+use Rattle.kernel_records.proofs.SchedulerFacts.{row-scheduler, scheduler-served}
 use Rattle.kernel_records.proofs.records.Records.decide_checked.Goals as goal
 
-pub target-requires : goal.target-requires
-target-requires c =
-    let t : is_task_call c.args.request.now.service ≡ true = sym c.is_task_call.ensures ∙ c.if-is_task_call.true in
-    target-below c.self.inside c.args.request.now c.args.seen.now.caller.0 c.self.invariant c.requires.caller c.requires.served t (rw (← c.self.view_is) at c.requires.passed)
+pub returns-then-is_scheduler_call-clause-value : goal.returns-then-is_scheduler_call-clause-value
+returns-then-is_scheduler_call-clause-value c =
+    let n : is_scheduler_call c.args.request.now.service ≡ true = sym c.is_scheduler_call.ensures ∙ c.if-is_scheduler_call.true in
+    c.decide_on_scheduler.ensures ∙ sym (about-scheduler c.args.request.now c.args.seen.now c.args.self.now.state n)
 
-pub decide_own-requires-clause-number : goal.decide_own-requires-clause-number
-decide_own-requires-clause-number c =
-    let t : is_task_call c.args.request.now.service ≡ true = sym c.is_task_call.ensures ∙ c.if-is_task_call.true in
-    subst (λ n. n < 64) (sym c.target.ensures)
-    (target-below c.self.inside c.args.request.now c.args.seen.now.caller.0 c.self.invariant c.requires.caller c.requires.served t (rw (← c.self.view_is) at c.requires.passed))
+pub returns-then-is_scheduler_call-clause-row : goal.returns-then-is_scheduler_call-clause-row
+returns-then-is_scheduler_call-clause-row c =
+    let n : is_scheduler_call c.args.request.now.service ≡ true = sym c.is_scheduler_call.ensures ∙ c.if-is_scheduler_call.true in
+    row-scheduler c.args.request.now c.args.seen.now c.decide_on_scheduler.result c.args.self.now.state c.requires.served c.requires.passed n c.decide_on_scheduler.ensures
 
-pub returns-then-is_task_call-clause-value : goal.returns-then-is_task_call-clause-value
-returns-then-is_task_call-clause-value c =
+pub returns-then-is_scheduler_call-clause-served : goal.returns-then-is_scheduler_call-clause-served
+returns-then-is_scheduler_call-clause-served c =
     let r = c.args.request.now in
-    let seen = c.args.seen.now in
-    let a = c.self.inside in
-    let t : is_task_call r.service ≡ true = sym c.is_task_call.ensures ∙ c.if-is_task_call.true in
-    let passed = rw (← c.self.view_is) at c.requires.passed in
-    rw (← c.self.view_is)
-    (c.decide_own.ensures.value
-    ∙ ap (λ y. own.decision_of (own_at a.messages y).count (own_at a.messages y).limit (own_at a.messages y).messages a.messages.free r seen) c.target.ensures
-    ∙ sym (own-decision a r seen.caller.0 c.self.invariant c.requires.caller c.requires.served t passed seen)
-    ∙ sym (by-task r seen (state_of a) t))
+    subst (λ (d : Decision). IsServedDecision d r.service) (sym c.decide_on_scheduler.ensures) (scheduler-served r.service r c.args.seen.now c.args.self.now.state)
 
-pub returns-then-is_task_call-clause-row : goal.returns-then-is_task_call-clause-row
-returns-then-is_task_call-clause-row c =
-    let r = c.args.request.now in
-    let seen = c.args.seen.now in
-    let a = c.self.inside in
-    let y = target r.service r seen.caller.0 in
-    let o = own_at a.messages y in
-    let t : is_task_call r.service ≡ true = sym c.is_task_call.ensures ∙ c.if-is_task_call.true in
-    let passed = rw (← c.self.view_is) at c.requires.passed in
-    let does : IsTaskDecided c.decide_own.result o.count o.limit o.messages a.messages.free r seen =
-    subst (λ n. IsTaskDecided c.decide_own.result (own_at a.messages n).count (own_at a.messages n).limit (own_at a.messages n).messages a.messages.free r seen) c.target.ensures c.decide_own.ensures.row in
-    rw (← c.self.view_is)
-    (row-task r seen c.decide_own.result (state_of a) o.count o.limit o.messages c.requires.served passed t
-    (holds a r seen.caller.0 c.self.invariant c.requires.caller c.requires.served t passed) does)
+pub decide_on_objects-requires-clause-served : goal.decide_on_objects-requires-clause-served
+decide_on_objects-requires-clause-served c =
+    let n : is_scheduler_call c.args.request.now.service ≡ false = sym c.is_scheduler_call.ensures ∙ c.if-is_scheduler_call.false in
+    serves-by c.args.request.now.service c.requires.served n
+
+pub returns-else-is_scheduler_call-clause-value : goal.returns-else-is_scheduler_call-clause-value
+returns-else-is_scheduler_call-clause-value c =
+    let n : is_scheduler_call c.args.request.now.service ≡ false = sym c.is_scheduler_call.ensures ∙ c.if-is_scheduler_call.false in
+    c.decide_on_objects.ensures.value ∙ sym (about-objects c.args.request.now c.args.seen.now c.args.self.now.state n)

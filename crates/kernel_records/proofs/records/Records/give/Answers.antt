@@ -20,6 +20,6 @@ returns c =
     let x = c.args.task.0 in
     let ts = c.self.inside.tasks.tasks in
     let h : x < length ts = subst (λ n. x < n) (sym c.self.invariant.tasks) c.requires.task in
-    rw (← c.self.view_is, c.answer_task.ensures.tasks, c.answer_task.ensures.registers, c.drop_match.ensures)
-    (ap (λ (us : List Task). let a : RecordsRecord = record { state = record (state_of c.self.inside) { tasks = us; matches = unmatched x c.self.inside.matches.items }; registers = c.self.inside.tasks.registers } in a)
+    rw (← c.self.view_is, c.answer_task.ensures.tasks, c.answer_task.ensures.registers, c.remove.ensures)
+    (ap (λ (us : List Task). let a : RecordsRecord = record { state = record (state_of c.self.inside) { tasks = us; matches = unmatched x c.self.inside.ticks.matches }; registers = c.self.inside.tasks.registers } in a)
     (given-tasks c.self.inside.messages.own ts x c.args.answer h))

@@ -1,4 +1,4 @@
-use Rattle.std.proofs.Common.{◌≡◌, ◌≤◌, List, ap, sym, ◌∙◌, map, length, refl, subst, rules}
+use Rattle.std.proofs.Common.{◌≡◌, ◌≤◌, List, ap, sym, ◌∙◌, map, length, refl, subst, rules, arith}
 use Rattle.std.proofs.lemmas.List.{length-map}
 use Rattle.kern_model.specs.State.{Object, Task, kind_of}
 use Rattle.kern_model.specs.Start.{object_of, start_tasks}
@@ -31,6 +31,7 @@ invariant_of-result c =
       queues = ap (λ (m : Store). length m.queues) store ∙ length-map i.objects declared_queue ∙ sym size;
       own = ap (λ (m : Store). length m.own) store ∙ length-map (start_tasks i) own_of ∙ many;
       tasks = ap (λ (ts : List Task). length ts) c.new.ensures.tasks ∙ length-map (start_tasks i) without_own ∙ many;
+      lock = omega arith;
     }
 
 pub returns : goal.returns

@@ -1,5 +1,5 @@
 use Rattle.std.proofs.Common.{◌∙◌, take}
-use Rattle.link_plans.proofs.MoveFacts.{leave_at, wait_at, nothing_at}
+use Rattle.link_plans.proofs.Renewals.Links.{leave_at, wait_at, nothing_at}
 use Rattle.link_plans.proofs.moves.Move.wait_link.Goals as goal
 
 pub returns-in_err-get-clause-link : goal.returns-in_err-get-clause-link

@@ -1,5 +1,5 @@
 use Rattle.std.proofs.Common.{sym, ◌∙◌, arith}
-use Rattle.link_plans.proofs.MoveFacts.{moves_next, moves_skip}
+use Rattle.link_plans.proofs.Renewals.Links.{moves_next, moves_skip}
 use Rattle.link_plans.proofs.moves.Moves.next_link.Goals as goal
 
 pub returns-in-Some-clause-next : goal.returns-in-Some-clause-next

@@ -1,7 +1,7 @@
 use Rattle.std.proofs.Common.{arith, ap, ◌∙◌, ◌≡◌}
 use Rattle.kern_model.specs.Inherit.{numbers}
 use Rattle.link_plans.specs.Told.{moves_told}
-use Rattle.link_plans.proofs.ToldFacts.{told-next, told-room, all-told, all-moves, all-low}
+use Rattle.link_plans.proofs.Renewals.Told.{told-next, told-room, all-told, all-moves, all-low}
 use Rattle.link_plans.proofs.moves.Moves.renew.Goals as goal
 
 pub add-requires-clause-room : goal.add-requires-clause-room

@@ -2,7 +2,7 @@ use Rattle.std.proofs.Common.{◌-◌, ◌+◌, ◌∷◌, ◌∙◌, ℕ, List,
 use Rattle.kern_model.specs.State.{Task}
 use Rattle.micro_steps.specs.declared.link.Link.TheVariants.{Wait}
 use Rattle.link_plans.specs.Plans.{block_links}
-use Rattle.link_plans.proofs.PlanFacts.{wait_next, wait_none}
+use Rattle.link_plans.proofs.Plans.Blocks.{wait_next, wait_none}
 use Rattle.link_plans.proofs.plan.Plan.next_of_block.Goals as goal
 
 pub returns-then-index-len-clause-next : goal.returns-then-index-len-clause-next

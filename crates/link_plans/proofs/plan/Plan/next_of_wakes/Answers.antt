@@ -1,6 +1,6 @@
 use Rattle.std.proofs.Common.{sym, ◌∙◌, arith}
 use Rattle.tcb_pool.specs.TaskView.{task_of}
-use Rattle.link_plans.proofs.PlanFacts.{woken_next, woken_skip}
+use Rattle.link_plans.proofs.Plans.Blocks.{woken_next, woken_skip}
 use Rattle.link_plans.proofs.plan.Plan.next_of_wakes.Goals as goal
 
 pub returns-in-Some-clause-next : goal.returns-in-Some-clause-next

@@ -1,6 +1,6 @@
 use Rattle.std.proofs.Common.{take, refl}
 use Rattle.tcb_pool.specs.TaskView.{task_of}
-use Rattle.link_plans.proofs.PlanFacts.{leave_at, ready_at, wake_none}
+use Rattle.link_plans.proofs.Plans.Blocks.{leave_at, ready_at, wake_none}
 use Rattle.link_plans.proofs.plan.Plan.wake_link.Goals.{else-tcb-eq0-via-then-tcb-eq0+else-made-ids-2, else-tcb-eq0-via-else-tcb-eq0}
 use Rattle.link_plans.proofs.plan.Plan.wake_link.Goals as goal
 

@@ -11,36 +11,36 @@ use Rattle.machine_core.proofs.MachineFacts.{GoesOn, more-machine, more-line, mo
 use Rattle.machine_core.proofs.machine.Machine.advance.Goals as goal
 
 -- a micro-step after which others are left
-pub invariant_of-self : goal.invariant_of-self
-invariant_of-self g c =
+pub invariant_of-self-else-advance_into : goal.invariant_of-self-else-advance_into
+invariant_of-self-else-advance_into g c =
     let a = parts c.self.inside.method c.self.inside.kernel c.self.inside.kinds c.self.inside.ram c.self.inside.program c.self.inside.config c.self.inside.current c.self.inside.frames c.self.inside.later c.self.inside.looks c.self.inside.begun c.self.inside.s c.self.inside.t in
     let h = c.in-Some.work.now in
     let held : a.kernel.hand ≡ Some h = c.in-Some.ensures in
     let goes : GoesOn a.method (machine_of a) = rw (← c.self.view_is) at c.requires.rule in
     let open_yet : a.t < 1000000 = rw (← c.self.view_is) at c.requires.open_yet in
-    let p : h.done + 1 < cost (effect_of h a.kernel.state) a.kernel.state = not-last a.kernel c.advance.new.self h c.advance.result held c.advance.ensures.open_yet c.advance.ensures.more c.advance.ensures.done c.in-More.is in
-    let next = (c.advance.ensures.more h held p).1 in
-    more-kept a h c.advance.new.self c.self.invariant goes held open_yet p next
+    let p : h.done + 1 < cost (effect_of h a.kernel.state) a.kernel.state = not-last a.kernel c.advance_into.new.self h c.advance_into.result c.advance_into.new.outcome held c.advance_into.ensures.open_yet c.advance_into.ensures.more c.advance_into.ensures.done c.if-advance_into.false in
+    let next = (c.advance_into.ensures.more h held p).1 in
+    more-kept a h c.advance_into.new.self c.self.invariant goes held open_yet p next
 
-pub returns-in-More-clause-line : goal.returns-in-More-clause-line
-returns-in-More-clause-line g c =
+pub returns-else-advance_into-clause-line : goal.returns-else-advance_into-clause-line
+returns-else-advance_into-clause-line g c =
     let a = parts c.self.inside.method c.self.inside.kernel c.self.inside.kinds c.self.inside.ram c.self.inside.program c.self.inside.config c.self.inside.current c.self.inside.frames c.self.inside.later c.self.inside.looks c.self.inside.begun c.self.inside.s c.self.inside.t in
     let h = c.in-Some.work.now in
     let held : a.kernel.hand ≡ Some h = c.in-Some.ensures in
     let goes : GoesOn a.method (machine_of a) = rw (← c.self.view_is) at c.requires.rule in
-    let p : h.done + 1 < cost (effect_of h a.kernel.state) a.kernel.state = not-last a.kernel c.advance.new.self h c.advance.result held c.advance.ensures.open_yet c.advance.ensures.more c.advance.ensures.done c.in-More.is in
-    let next = (c.advance.ensures.more h held p).1 in
+    let p : h.done + 1 < cost (effect_of h a.kernel.state) a.kernel.state = not-last a.kernel c.advance_into.new.self h c.advance_into.result c.advance_into.new.outcome held c.advance_into.ensures.open_yet c.advance_into.ensures.more c.advance_into.ensures.done c.if-advance_into.false in
+    let next = (c.advance_into.ensures.more h held p).1 in
     rw (← c.self.view_is) (c.requires.blank ∙ more-line a h c.self.invariant goes held p)
 
-pub returns-in-More-clause-machine : goal.returns-in-More-clause-machine
-returns-in-More-clause-machine g c =
+pub returns-else-advance_into-clause-machine : goal.returns-else-advance_into-clause-machine
+returns-else-advance_into-clause-machine g c =
     let a = parts c.self.inside.method c.self.inside.kernel c.self.inside.kinds c.self.inside.ram c.self.inside.program c.self.inside.config c.self.inside.current c.self.inside.frames c.self.inside.later c.self.inside.looks c.self.inside.begun c.self.inside.s c.self.inside.t in
     let h = c.in-Some.work.now in
     let held : a.kernel.hand ≡ Some h = c.in-Some.ensures in
     let goes : GoesOn a.method (machine_of a) = rw (← c.self.view_is) at c.requires.rule in
-    let p : h.done + 1 < cost (effect_of h a.kernel.state) a.kernel.state = not-last a.kernel c.advance.new.self h c.advance.result held c.advance.ensures.open_yet c.advance.ensures.more c.advance.ensures.done c.in-More.is in
-    let next = (c.advance.ensures.more h held p).1 in
-    rw (← c.self.view_is) (more-machine a h c.advance.new.self c.self.invariant goes held p next)
+    let p : h.done + 1 < cost (effect_of h a.kernel.state) a.kernel.state = not-last a.kernel c.advance_into.new.self h c.advance_into.result c.advance_into.new.outcome held c.advance_into.ensures.open_yet c.advance_into.ensures.more c.advance_into.ensures.done c.if-advance_into.false in
+    let next = (c.advance_into.ensures.more h held p).1 in
+    rw (← c.self.view_is) (more-machine a h c.advance_into.new.self c.self.invariant goes held p next)
 
 -- the last one
 pub end-requires-clause-plain : goal.end-requires-clause-plain
@@ -49,50 +49,50 @@ end-requires-clause-plain g c =
     let h = c.in-Some.work.now in
     let held : a.kernel.hand ≡ Some h = c.in-Some.ensures in
     let goes : GoesOn a.method (machine_of a) = rw (← c.self.view_is) at c.requires.rule in
-    let p : h.done + 1 ≡ cost (effect_of h a.kernel.state) a.kernel.state = is-last a.kernel c.advance.new.self h c.advance.result held c.advance.ensures.open_yet c.advance.ensures.more c.advance.ensures.done c.in-Done.outcome c.in-Done.is in
-    let outcome = outcome-is a.kernel c.advance.new.self h c.advance.result held c.advance.ensures.open_yet c.advance.ensures.more c.advance.ensures.done c.in-Done.outcome c.in-Done.is in
+    let p : h.done + 1 ≡ cost (effect_of h a.kernel.state) a.kernel.state = is-last a.kernel c.advance_into.new.self h c.advance_into.result c.advance_into.new.outcome held c.advance_into.ensures.open_yet c.advance_into.ensures.more c.advance_into.ensures.done c.if-advance_into.true in
+    let outcome = outcome-is a.kernel c.advance_into.new.self h c.advance_into.result c.advance_into.new.outcome held c.advance_into.ensures.open_yet c.advance_into.ensures.more c.advance_into.ensures.done c.if-advance_into.true in
     let calls : (h.caller == 63) ≡ false = sym c.is_take.ensures ∙ c.if-is_take.false in
     rw outcome (plain-effect (call_of h.request h.caller h.interrupted h.compared) a.kernel.state)
 
-pub invariant_of-self-in-Done : goal.invariant_of-self-in-Done
-invariant_of-self-in-Done g c =
+pub invariant_of-self : goal.invariant_of-self
+invariant_of-self g c =
     let a = parts c.self.inside.method c.self.inside.kernel c.self.inside.kinds c.self.inside.ram c.self.inside.program c.self.inside.config c.self.inside.current c.self.inside.frames c.self.inside.later c.self.inside.looks c.self.inside.begun c.self.inside.s c.self.inside.t in
     let h = c.in-Some.work.now in
     let held : a.kernel.hand ≡ Some h = c.in-Some.ensures in
     let goes : GoesOn a.method (machine_of a) = rw (← c.self.view_is) at c.requires.rule in
     let open_yet : a.t < 1000000 = rw (← c.self.view_is) at c.requires.open_yet in
-    let p : h.done + 1 ≡ cost (effect_of h a.kernel.state) a.kernel.state = is-last a.kernel c.advance.new.self h c.advance.result held c.advance.ensures.open_yet c.advance.ensures.more c.advance.ensures.done c.in-Done.outcome c.in-Done.is in
-    let outcome = outcome-is a.kernel c.advance.new.self h c.advance.result held c.advance.ensures.open_yet c.advance.ensures.more c.advance.ensures.done c.in-Done.outcome c.in-Done.is in
+    let p : h.done + 1 ≡ cost (effect_of h a.kernel.state) a.kernel.state = is-last a.kernel c.advance_into.new.self h c.advance_into.result c.advance_into.new.outcome held c.advance_into.ensures.open_yet c.advance_into.ensures.more c.advance_into.ensures.done c.if-advance_into.true in
+    let outcome = outcome-is a.kernel c.advance_into.new.self h c.advance_into.result c.advance_into.new.outcome held c.advance_into.ensures.open_yet c.advance_into.ensures.more c.advance_into.ensures.done c.if-advance_into.true in
     let calls : (h.caller == 63) ≡ false = sym c.is_take.ensures ∙ c.if-is_take.false in
     let service = c.service-service.ensures in
     let ends : c.end.new.kernel ≡ ended_kernel (ended a.kernel h) a.current.0 h.request.service (effect_of h a.kernel.state).outcome =
-    c.end.ensures.kernel ∙ ap (λ k. ended_kernel k a.current.0 c.service-service.result c.in-Done.outcome) (c.advance.ensures.done h held p).1
-    ∙ ap (λ s. ended_kernel (ended a.kernel h) a.current.0 s c.in-Done.outcome) service ∙ ap (ended_kernel (ended a.kernel h) a.current.0 h.request.service) outcome in
+    c.end.ensures.kernel ∙ ap (λ k. ended_kernel k a.current.0 c.service-service.result c.advance_into.new.outcome) (c.advance_into.ensures.done h held p).2
+    ∙ ap (λ s. ended_kernel (ended a.kernel h) a.current.0 s c.advance_into.new.outcome) service ∙ ap (ended_kernel (ended a.kernel h) a.current.0 h.request.service) outcome in
     last-kept a h c.self.invariant goes held p calls c.end.new.kernel c.settle-self-inside.result ends c.settle-self-inside.ensures open_yet
 
-pub returns-in-Done-clause-line : goal.returns-in-Done-clause-line
-returns-in-Done-clause-line g c =
+pub returns-then-advance_into-clause-line : goal.returns-then-advance_into-clause-line
+returns-then-advance_into-clause-line g c =
     let a = parts c.self.inside.method c.self.inside.kernel c.self.inside.kinds c.self.inside.ram c.self.inside.program c.self.inside.config c.self.inside.current c.self.inside.frames c.self.inside.later c.self.inside.looks c.self.inside.begun c.self.inside.s c.self.inside.t in
     let h = c.in-Some.work.now in
     let held : a.kernel.hand ≡ Some h = c.in-Some.ensures in
     let goes : GoesOn a.method (machine_of a) = rw (← c.self.view_is) at c.requires.rule in
-    let p : h.done + 1 ≡ cost (effect_of h a.kernel.state) a.kernel.state = is-last a.kernel c.advance.new.self h c.advance.result held c.advance.ensures.open_yet c.advance.ensures.more c.advance.ensures.done c.in-Done.outcome c.in-Done.is in
-    let outcome = outcome-is a.kernel c.advance.new.self h c.advance.result held c.advance.ensures.open_yet c.advance.ensures.more c.advance.ensures.done c.in-Done.outcome c.in-Done.is in
+    let p : h.done + 1 ≡ cost (effect_of h a.kernel.state) a.kernel.state = is-last a.kernel c.advance_into.new.self h c.advance_into.result c.advance_into.new.outcome held c.advance_into.ensures.open_yet c.advance_into.ensures.more c.advance_into.ensures.done c.if-advance_into.true in
+    let outcome = outcome-is a.kernel c.advance_into.new.self h c.advance_into.result c.advance_into.new.outcome held c.advance_into.ensures.open_yet c.advance_into.ensures.more c.advance_into.ensures.done c.if-advance_into.true in
     let calls : (h.caller == 63) ≡ false = sym c.is_take.ensures ∙ c.if-is_take.false in
-    let told = c.end.ensures.line ∙ ap (λ s. ended_line a.current.0 s c.in-Done.outcome) c.service-service.ensures ∙ ap (ended_line a.current.0 h.request.service) outcome in
+    let told = c.end.ensures.line ∙ ap (λ s. ended_line a.current.0 s c.advance_into.new.outcome) c.service-service.ensures ∙ ap (ended_line a.current.0 h.request.service) outcome in
     rw (← c.self.view_is) (told ∙ call-line a h c.self.invariant goes held p calls)
 
-pub returns-in-Done-clause-machine : goal.returns-in-Done-clause-machine
-returns-in-Done-clause-machine g c =
+pub returns-then-advance_into-clause-machine : goal.returns-then-advance_into-clause-machine
+returns-then-advance_into-clause-machine g c =
     let a = parts c.self.inside.method c.self.inside.kernel c.self.inside.kinds c.self.inside.ram c.self.inside.program c.self.inside.config c.self.inside.current c.self.inside.frames c.self.inside.later c.self.inside.looks c.self.inside.begun c.self.inside.s c.self.inside.t in
     let h = c.in-Some.work.now in
     let held : a.kernel.hand ≡ Some h = c.in-Some.ensures in
     let goes : GoesOn a.method (machine_of a) = rw (← c.self.view_is) at c.requires.rule in
-    let p : h.done + 1 ≡ cost (effect_of h a.kernel.state) a.kernel.state = is-last a.kernel c.advance.new.self h c.advance.result held c.advance.ensures.open_yet c.advance.ensures.more c.advance.ensures.done c.in-Done.outcome c.in-Done.is in
-    let outcome = outcome-is a.kernel c.advance.new.self h c.advance.result held c.advance.ensures.open_yet c.advance.ensures.more c.advance.ensures.done c.in-Done.outcome c.in-Done.is in
+    let p : h.done + 1 ≡ cost (effect_of h a.kernel.state) a.kernel.state = is-last a.kernel c.advance_into.new.self h c.advance_into.result c.advance_into.new.outcome held c.advance_into.ensures.open_yet c.advance_into.ensures.more c.advance_into.ensures.done c.if-advance_into.true in
+    let outcome = outcome-is a.kernel c.advance_into.new.self h c.advance_into.result c.advance_into.new.outcome held c.advance_into.ensures.open_yet c.advance_into.ensures.more c.advance_into.ensures.done c.if-advance_into.true in
     let calls : (h.caller == 63) ≡ false = sym c.is_take.ensures ∙ c.if-is_take.false in
     let service = c.service-service.ensures in
     let ends : c.end.new.kernel ≡ ended_kernel (ended a.kernel h) a.current.0 h.request.service (effect_of h a.kernel.state).outcome =
-    c.end.ensures.kernel ∙ ap (λ k. ended_kernel k a.current.0 c.service-service.result c.in-Done.outcome) (c.advance.ensures.done h held p).1
-    ∙ ap (λ s. ended_kernel (ended a.kernel h) a.current.0 s c.in-Done.outcome) service ∙ ap (ended_kernel (ended a.kernel h) a.current.0 h.request.service) outcome in
+    c.end.ensures.kernel ∙ ap (λ k. ended_kernel k a.current.0 c.service-service.result c.advance_into.new.outcome) (c.advance_into.ensures.done h held p).2
+    ∙ ap (λ s. ended_kernel (ended a.kernel h) a.current.0 s c.advance_into.new.outcome) service ∙ ap (ended_kernel (ended a.kernel h) a.current.0 h.request.service) outcome in
     rw (← c.self.view_is) (last-machine a h c.self.invariant goes held p calls c.end.new.kernel c.settle-self-inside.result ends c.settle-self-inside.ensures)

@@ -1,11 +1,9 @@
-use Rattle.std.proofs.Common.{◌≡◌, ◌<◌, ◌∙◌, sym, ap, true, None}
-use Rattle.std.specs.Prelude.{is_none, not, ◌&&◌}
+use Rattle.std.proofs.Common.{◌≡◌, ◌<◌, ◌∙◌, sym, ap}
 use Rattle.kern_model.specs.Served.{program_serves}
-use Rattle.machine_model.specs.Looks.{look_at}
-use Rattle.machine_model.specs.Rules.{Rule, may_take, marks}
+use Rattle.machine_model.specs.Rules.{Rule, marks}
 use Rattle.machine_core.specs.MachineView.{machine_of, parts}
-use Rattle.machine_core.specs.Valid.{is_direct, change}
-use Rattle.machine_core.proofs.ComingLaws.{Comes, it-comes, none-comes, may-enter}
+use Rattle.machine_core.specs.Valid.{change}
+use Rattle.machine_core.proofs.ComingLaws.{Comes, asked, it-comes, none-comes, may-enter}
 use Rattle.machine_core.proofs.FrameFacts.{enters-kept, enters-next, enters-line, locked-is}
 use Rattle.machine_core.proofs.PrintLaws.{printable-next}
 use Rattle.machine_core.proofs.machine.Machine.pass.Goals as goal
@@ -15,57 +13,37 @@ use Rattle.machine_core.proofs.machine.Machine.pass.Goals as goal
 pub enter-requires : goal.enter-requires
 enter-requires g c =
     let a = parts c.self.inside.method c.self.inside.kernel c.self.inside.kinds c.self.inside.ram c.self.inside.program c.self.inside.config c.self.inside.current c.self.inside.frames c.self.inside.later c.self.inside.looks c.self.inside.begun c.self.inside.s c.self.inside.t in
-    let begun : a.begun ≡ true = rw (← c.self.view_is) at c.requires.begun in
-    let no_look : look_at a.s a.looks ≡ None = rw (← c.self.view_is) at c.requires.no_look in
-    let free : c.is_free-free.result ≡ is_none a.kernel.hand = c.is_free-free.ensures in
-    let masked : c.is_masked-masked.result ≡ (not c.is_free-free.result && is_direct a.method) = rw (← c.self.view_is) at c.is_masked-masked.ensures in
-    let quiet : c.is_quiet-quiet.result ≡ (c.is_free-free.result && not (may_take (machine_of a))) = rw (← c.self.view_is) at c.is_quiet-quiet.ensures in
-    let comes : Comes a c.in-Some.number = it-comes a c.is_free-free.result c.is_masked-masked.result c.is_quiet-quiet.result c.in-Some.number begun no_look free masked quiet c.due.ensures.rising (sym c.due.ensures.number ∙ c.in-Some.is) in
+    let asks = asked c.args.self.now a c.is_free-free.result c.is_masked-masked.result c.is_quiet-quiet.result c.self.view_is c.requires.begun c.requires.no_look c.is_free-free.ensures c.is_masked-masked.ensures c.is_quiet-quiet.ensures in
+    let comes : Comes a c.in-Some.number = it-comes a c.is_free-free.result c.is_masked-masked.result c.is_quiet-quiet.result c.in-Some.number asks c.due.ensures.rising (sym c.due.ensures.number ∙ c.in-Some.is) in
     may-enter a c.in-Some.number comes
 
 pub invariant_of-self : goal.invariant_of-self
 invariant_of-self g c =
     let a = parts c.self.inside.method c.self.inside.kernel c.self.inside.kinds c.self.inside.ram c.self.inside.program c.self.inside.config c.self.inside.current c.self.inside.frames c.self.inside.later c.self.inside.looks c.self.inside.begun c.self.inside.s c.self.inside.t in
-    let begun : a.begun ≡ true = rw (← c.self.view_is) at c.requires.begun in
-    let no_look : look_at a.s a.looks ≡ None = rw (← c.self.view_is) at c.requires.no_look in
-    let free : c.is_free-free.result ≡ is_none a.kernel.hand = c.is_free-free.ensures in
-    let masked : c.is_masked-masked.result ≡ (not c.is_free-free.result && is_direct a.method) = rw (← c.self.view_is) at c.is_masked-masked.ensures in
-    let quiet : c.is_quiet-quiet.result ≡ (c.is_free-free.result && not (may_take (machine_of a))) = rw (← c.self.view_is) at c.is_quiet-quiet.ensures in
-    let comes : Comes a c.in-Some.number = it-comes a c.is_free-free.result c.is_masked-masked.result c.is_quiet-quiet.result c.in-Some.number begun no_look free masked quiet c.due.ensures.rising (sym c.due.ensures.number ∙ c.in-Some.is) in
+    let asks = asked c.args.self.now a c.is_free-free.result c.is_masked-masked.result c.is_quiet-quiet.result c.self.view_is c.requires.begun c.requires.no_look c.is_free-free.ensures c.is_masked-masked.ensures c.is_quiet-quiet.ensures in
+    let comes : Comes a c.in-Some.number = it-comes a c.is_free-free.result c.is_masked-masked.result c.is_quiet-quiet.result c.in-Some.number asks c.due.ensures.rising (sym c.due.ensures.number ∙ c.in-Some.is) in
     let open_yet : a.t < 1000000 = rw (← c.self.view_is) at c.requires.open_yet in
     enters-kept a c.in-Some.number comes c.enter.new.frames c.enter.ensures.frames c.enter.ensures.waiting c.self.invariant open_yet
 
 pub returns-in-Some-clause-line : goal.returns-in-Some-clause-line
 returns-in-Some-clause-line g c =
     let a = parts c.self.inside.method c.self.inside.kernel c.self.inside.kinds c.self.inside.ram c.self.inside.program c.self.inside.config c.self.inside.current c.self.inside.frames c.self.inside.later c.self.inside.looks c.self.inside.begun c.self.inside.s c.self.inside.t in
-    let begun : a.begun ≡ true = rw (← c.self.view_is) at c.requires.begun in
-    let no_look : look_at a.s a.looks ≡ None = rw (← c.self.view_is) at c.requires.no_look in
-    let free : c.is_free-free.result ≡ is_none a.kernel.hand = c.is_free-free.ensures in
-    let masked : c.is_masked-masked.result ≡ (not c.is_free-free.result && is_direct a.method) = rw (← c.self.view_is) at c.is_masked-masked.ensures in
-    let quiet : c.is_quiet-quiet.result ≡ (c.is_free-free.result && not (may_take (machine_of a))) = rw (← c.self.view_is) at c.is_quiet-quiet.ensures in
-    let comes : Comes a c.in-Some.number = it-comes a c.is_free-free.result c.is_masked-masked.result c.is_quiet-quiet.result c.in-Some.number begun no_look free masked quiet c.due.ensures.rising (sym c.due.ensures.number ∙ c.in-Some.is) in
+    let asks = asked c.args.self.now a c.is_free-free.result c.is_masked-masked.result c.is_quiet-quiet.result c.self.view_is c.requires.begun c.requires.no_look c.is_free-free.ensures c.is_masked-masked.ensures c.is_quiet-quiet.ensures in
+    let comes : Comes a c.in-Some.number = it-comes a c.is_free-free.result c.is_masked-masked.result c.is_quiet-quiet.result c.in-Some.number asks c.due.ensures.rising (sym c.due.ensures.number ∙ c.in-Some.is) in
     rw (← c.self.view_is) (enters-line a c.in-Some.number comes _ c.enter.new.line c.enter.ensures.line (rw c.lock-locked.ensures.value (locked-is a.kernel.state.lock)))
 
 pub returns-in-Some-clause-marked : goal.returns-in-Some-clause-marked
 returns-in-Some-clause-marked g c =
     let a = parts c.self.inside.method c.self.inside.kernel c.self.inside.kinds c.self.inside.ram c.self.inside.program c.self.inside.config c.self.inside.current c.self.inside.frames c.self.inside.later c.self.inside.looks c.self.inside.begun c.self.inside.s c.self.inside.t in
-    let begun : a.begun ≡ true = rw (← c.self.view_is) at c.requires.begun in
-    let no_look : look_at a.s a.looks ≡ None = rw (← c.self.view_is) at c.requires.no_look in
-    let free : c.is_free-free.result ≡ is_none a.kernel.hand = c.is_free-free.ensures in
-    let masked : c.is_masked-masked.result ≡ (not c.is_free-free.result && is_direct a.method) = rw (← c.self.view_is) at c.is_masked-masked.ensures in
-    let quiet : c.is_quiet-quiet.result ≡ (c.is_free-free.result && not (may_take (machine_of a))) = rw (← c.self.view_is) at c.is_quiet-quiet.ensures in
-    let comes : Comes a c.in-Some.number = it-comes a c.is_free-free.result c.is_masked-masked.result c.is_quiet-quiet.result c.in-Some.number begun no_look free masked quiet c.due.ensures.rising (sym c.due.ensures.number ∙ c.in-Some.is) in
+    let asks = asked c.args.self.now a c.is_free-free.result c.is_masked-masked.result c.is_quiet-quiet.result c.self.view_is c.requires.begun c.requires.no_look c.is_free-free.ensures c.is_masked-masked.ensures c.is_quiet-quiet.ensures in
+    let comes : Comes a c.in-Some.number = it-comes a c.is_free-free.result c.is_masked-masked.result c.is_quiet-quiet.result c.in-Some.number asks c.due.ensures.rising (sym c.due.ensures.number ∙ c.in-Some.is) in
     rw (← c.self.view_is) (sym (ap (λ (r : Rule). marks program_serves r (machine_of a)) comes.rule_is))
 
 pub returns-in-Some-clause-machine : goal.returns-in-Some-clause-machine
 returns-in-Some-clause-machine g c =
     let a = parts c.self.inside.method c.self.inside.kernel c.self.inside.kinds c.self.inside.ram c.self.inside.program c.self.inside.config c.self.inside.current c.self.inside.frames c.self.inside.later c.self.inside.looks c.self.inside.begun c.self.inside.s c.self.inside.t in
-    let begun : a.begun ≡ true = rw (← c.self.view_is) at c.requires.begun in
-    let no_look : look_at a.s a.looks ≡ None = rw (← c.self.view_is) at c.requires.no_look in
-    let free : c.is_free-free.result ≡ is_none a.kernel.hand = c.is_free-free.ensures in
-    let masked : c.is_masked-masked.result ≡ (not c.is_free-free.result && is_direct a.method) = rw (← c.self.view_is) at c.is_masked-masked.ensures in
-    let quiet : c.is_quiet-quiet.result ≡ (c.is_free-free.result && not (may_take (machine_of a))) = rw (← c.self.view_is) at c.is_quiet-quiet.ensures in
-    let comes : Comes a c.in-Some.number = it-comes a c.is_free-free.result c.is_masked-masked.result c.is_quiet-quiet.result c.in-Some.number begun no_look free masked quiet c.due.ensures.rising (sym c.due.ensures.number ∙ c.in-Some.is) in
+    let asks = asked c.args.self.now a c.is_free-free.result c.is_masked-masked.result c.is_quiet-quiet.result c.self.view_is c.requires.begun c.requires.no_look c.is_free-free.ensures c.is_masked-masked.ensures c.is_quiet-quiet.ensures in
+    let comes : Comes a c.in-Some.number = it-comes a c.is_free-free.result c.is_masked-masked.result c.is_quiet-quiet.result c.in-Some.number asks c.due.ensures.rising (sym c.due.ensures.number ∙ c.in-Some.is) in
     rw (← c.self.view_is) (enters-next a c.in-Some.number comes c.enter.new.frames c.enter.ensures.frames c.enter.ensures.waiting)
 
 -- none does
@@ -73,12 +51,8 @@ returns-in-Some-clause-machine g c =
 pub proceed-requires-clause-rule : goal.proceed-requires-clause-rule
 proceed-requires-clause-rule g c =
     let a = parts c.self.inside.method c.self.inside.kernel c.self.inside.kinds c.self.inside.ram c.self.inside.program c.self.inside.config c.self.inside.current c.self.inside.frames c.self.inside.later c.self.inside.looks c.self.inside.begun c.self.inside.s c.self.inside.t in
-    let begun : a.begun ≡ true = rw (← c.self.view_is) at c.requires.begun in
-    let no_look : look_at a.s a.looks ≡ None = rw (← c.self.view_is) at c.requires.no_look in
-    let free : c.is_free-free.result ≡ is_none a.kernel.hand = c.is_free-free.ensures in
-    let masked : c.is_masked-masked.result ≡ (not c.is_free-free.result && is_direct a.method) = rw (← c.self.view_is) at c.is_masked-masked.ensures in
-    let quiet : c.is_quiet-quiet.result ≡ (c.is_free-free.result && not (may_take (machine_of a))) = rw (← c.self.view_is) at c.is_quiet-quiet.ensures in
-    rw (← c.self.view_is) (none-comes a c.is_free-free.result c.is_masked-masked.result c.is_quiet-quiet.result begun no_look free masked quiet (sym c.due.ensures.number ∙ c.in-None.is))
+    let asks = asked c.args.self.now a c.is_free-free.result c.is_masked-masked.result c.is_quiet-quiet.result c.self.view_is c.requires.begun c.requires.no_look c.is_free-free.ensures c.is_masked-masked.ensures c.is_quiet-quiet.ensures in
+    rw (← c.self.view_is) (none-comes a c.is_free-free.result c.is_masked-masked.result c.is_quiet-quiet.result asks (sym c.due.ensures.number ∙ c.in-None.is))
 
 pub returns-in-None-clause-printable : goal.returns-in-None-clause-printable
 returns-in-None-clause-printable g c =

@@ -2,7 +2,7 @@ use Rattle.std.proofs.Common.{rules, ◌≡◌, subst}
 use Rattle.kern_model.specs.Served.{program_serves}
 use Rattle.machine_core.specs.MethodMachine.{MethodMachine, next_machine}
 use Rattle.machine_laws.specs.Valid.{IsValidMachine}
-use Rattle.machine_laws.proofs.FallLaws.{events_left-next}
+use Rattle.machine_laws.proofs.Lemmas.{events_left-next}
 use Rattle.machine_core.proofs.machine.Machine.step_into.Goals as goal
 use Rattle.machine_core.proofs.machine.Machine.step_into.Goals.{then-self, else-self}
 

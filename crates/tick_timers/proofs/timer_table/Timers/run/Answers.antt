@@ -1,7 +1,7 @@
 use Rattle.std.proofs.Common.{◌≡◌, ◌+◌, ◌++◌, ◌∷◌, [], ap, ◌∙◌, refl}
 use Rattle.std.specs.Prelude.{◌%◌, ◌^◌}
 use Rattle.kern_model.specs.Effect.{unmatched}
-use Rattle.kern_model.proofs.Lists.Members.{count-unmatched_own}
+use Rattle.kern_model.proofs.Lemmas.{count-unmatched_own}
 use Rattle.tick_timers.specs.declared.timer_table.TimerState.TheVariants.{Running}
 use Rattle.tick_timers.proofs.Rows.{state-others, state-runs}
 use Rattle.tick_timers.proofs.timer_table.Timers.run.Goals as goal

@@ -1,0 +1,6 @@
+pub mod RowLaws
+pub mod SaidForms
+pub mod SaidLines
+pub mod LineLaws
+pub mod PlainForms
+pub mod InitialLaws

@@ -1,0 +1,12 @@
+pub mod Tables
+pub mod Initials
+pub mod Mnemonics
+pub mod Registers
+pub mod Words
+pub mod Language
+pub mod Pieces
+pub mod Forms
+pub mod Lines
+pub mod Kept
+pub mod KeptForms
+pub mod KeptLines

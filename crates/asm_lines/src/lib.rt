@@ -1,0 +1,22 @@
+//! The lines of a case text: what each begins with, and the statement that it is.
+#![tactic(auto)]
+
+mod fields;
+mod forms;
+mod lines;
+mod mnemonics;
+mod pieces;
+mod registers;
+mod spellings;
+mod statements;
+mod tables;
+mod words;
+
+pub use fields::Fields;
+pub use lines::{Reading, read};
+pub use mnemonics::{
+    AloneOp, BranchOp, ImmediateOp, RegisterOp, Section, ShiftOp, StoreOp, UpperOp, jump_mnemonic,
+};
+pub use pieces::{Operand, Piece, Span, make_piece, spelling};
+pub use statements::{Line, Statement};
+pub use words::settings;

@@ -1,0 +1,7 @@
+pub mod Place
+pub mod Counts
+pub mod Names
+pub mod NameSteps
+pub mod Operands
+pub mod LinePlacesView
+pub mod NamesView

@@ -1,0 +1,3 @@
+-- Waiters that are looked at, and woken where their condition holds.
+pub mod Wakes
+pub mod Links

@@ -1,0 +1,3 @@
+-- Worked runs, computed from the definitions.
+pub mod Runs
+mod Services

@@ -1,0 +1,3 @@
+-- Which interrupt enters next in both runs.
+pub mod Alike
+pub mod Modes

@@ -1,6 +1,0 @@
-use Rattle.std.proofs.Common.{◌≡◌, drop, map}
-use Rattle.rv32_asm.specs.Tables.{entry, row_of}
-use Rattle.rv32_asm.proofs.tables.entry.Given as goal
-
-abbrev pub invariant-loop-spelled : goal.invariant-loop-spelled
-invariant-loop-spelled g l = entry l.name (map row_of (drop l.spelled-index l.table)) ≡ entry l.name (map row_of l.table)
