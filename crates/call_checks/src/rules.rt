@@ -2,7 +2,6 @@
 
 ghost use Rattle.std.specs.Prelude.{◌≡◌, ◌<◌, ℕ, List};
 ghost use Rattle.kern_base.specs.Services.{kinds_wanted, names_task, names_option, interrupt_error, is_post};
-ghost use Rattle.kern_model.specs.Served.{program_serves};
 ghost use Rattle.call_checks.specs.Rules.{kinds_named, task_named, allows, option_place};
 
 use kern_base::{Kind, OsErr, Service};
@@ -115,38 +114,6 @@ impl Options {
             Options::Below(place, limit) => args[place] < limit,
         }
     }
-}
-
-/// Whether this program serves a service: any other counts as an unknown number.
-pub fn is_served(service: Service) -> bool
-    ensures { result ≡ program_serves service }
-{
-    matches!(
-        service,
-        Service::SemPost
-            | Service::QPost
-            | Service::FlagPost
-            | Service::TaskSemPost
-            | Service::TaskQPost
-            | Service::SemPend
-            | Service::QPend
-            | Service::FlagPend
-            | Service::TaskSemPend
-            | Service::TaskQPend
-            | Service::SchedLock
-            | Service::SchedUnlock
-            | Service::TimeGet
-            | Service::TimeDly
-            | Service::TimeDlyResume
-            | Service::SemPendAbort
-            | Service::QPendAbort
-            | Service::FlagPendAbort
-            | Service::TaskSemPendAbort
-            | Service::TaskQPendAbort
-            | Service::SemDel
-            | Service::QDel
-            | Service::FlagDel
-    )
 }
 
 /// Whether this is one of the six services that interrupt code may use.

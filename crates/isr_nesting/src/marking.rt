@@ -2,15 +2,15 @@
 
 ghost use Rattle.std.specs.Prelude.{◌≡◌, ◌==◌, ◌||◌, ℕ, Bool, false, option_map};
 ghost use Rattle.std.specs.List.{list_any};
-ghost use Rattle.kern_model.specs.Served.{program_serves};
+ghost use Rattle.served.specs.Served.{program_serves};
 ghost use Rattle.isr_nesting.specs.FrameView.{mark_list};
 ghost use Rattle.rv32_isa.specs.Operands.{reads, writes};
 ghost use Rattle.machine_model.specs.Marks.{is_marked, call_reads, instruction_reads, marks_after, reads_of};
 
-use call_checks::is_served;
 use kern_base::Service;
 use rv32_exec::Regs;
 use rv32_isa::Instr;
+use served::is_served;
 
 // The marks of a0 and a1.
 const FIRST: u8 = 1;

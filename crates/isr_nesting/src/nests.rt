@@ -1,7 +1,7 @@
 // The nesting of interrupts.
 
 ghost use Rattle.std.specs.Prelude.{◌≡◌, ◌<◌, ◌≤◌, ◌+◌, ◌-◌, ◌^◌, ◌&&◌, All, length, map, IfSome, [], ◌∷◌, true, false, drop, if◌then◌else◌, is_some, IfOk, IsSomeAnd, Some, option_map, slice_get};
-ghost use Rattle.kern_model.specs.Served.{program_serves};
+ghost use Rattle.served.specs.Served.{program_serves};
 ghost use Rattle.inject_list.specs.Lists.{IsValidList};
 ghost use Rattle.machine_model.specs.Frames.{entered, frame_registers, interrupts_of, level_of, none_stands};
 ghost use Rattle.isr_nesting.specs.FrameView.{frame_record, mark_list, with_top};

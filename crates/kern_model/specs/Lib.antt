@@ -19,7 +19,6 @@ pub mod Time
 pub mod Timers
 pub mod Call
 pub mod Services
-pub mod Served
 pub mod Posts
 pub mod Finish
 pub mod Stop

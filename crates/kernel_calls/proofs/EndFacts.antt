@@ -9,7 +9,7 @@ use Rattle.kern_model.specs.State.{Kernel, Object, kind_of}
 use Rattle.kern_model.specs.Micro.{Halves, Lists, is_filled, lists_of, whole}
 use Rattle.kern_model.specs.Call.{call_of}
 use Rattle.kern_model.specs.Effect.{Effect}
-use Rattle.kern_model.specs.Served.{program_serves}
+use Rattle.served.specs.Served.{program_serves}
 use Rattle.kern_model.specs.Services.{blocks, cost, half}
 use Rattle.kern_model.specs.Valid.{IsLinked}
 use Rattle.kern_model.proofs.Lemmas.{linked-effect, half-effect}

@@ -21,7 +21,7 @@ use Rattle.kern_model.specs.Queues.{q_post, q_post_to, store_error, store_in, st
 use Rattle.kern_model.specs.Semaphores.{sem_post_to, sem_post}
 use Rattle.kern_model.specs.TaskObjects.{task_q_post_to, task_sem_post_to, task_store}
 use Rattle.kernel_calls.specs.Works.{IsPlainAnswer}
-use Rattle.kern_model.specs.Served.{program_serves}
+use Rattle.served.specs.Served.{program_serves}
 use Rattle.kern_model.specs.Services.{posted, after_checks, content_for, perform, post_request}
 use Rattle.kern_model.proofs.Lemmas.{choice}
 

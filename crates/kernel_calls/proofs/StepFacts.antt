@@ -9,7 +9,7 @@ use Rattle.kern_model.specs.State.{Kernel}
 use Rattle.kern_model.specs.Effect.{Effect}
 use Rattle.kern_model.specs.Micro.{Lists, Micro, lists_of}
 use Rattle.kern_model.specs.Call.{call_of}
-use Rattle.kern_model.specs.Served.{program_serves}
+use Rattle.served.specs.Served.{program_serves}
 use Rattle.kern_model.specs.Services.{blocks, cost}
 use Rattle.kern_model.specs.Valid.{IsLinked, MayCall}
 use Rattle.kern_model.proofs.Lemmas.{cost-effect-le}

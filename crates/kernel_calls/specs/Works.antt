@@ -7,7 +7,7 @@ use Rattle.kern_base.specs.declared.requests.Request.{Request}
 use Rattle.kern_model.specs.Call.{call_of}
 use Rattle.kern_model.specs.State.{Kernel}
 use Rattle.kern_model.specs.Effect.{Effect}
-use Rattle.kern_model.specs.Served.{program_serves}
+use Rattle.served.specs.Served.{program_serves}
 use Rattle.kern_model.specs.Services.{effect, post_request}
 use Rattle.kern_model.specs.Valid.{MayCall}
 

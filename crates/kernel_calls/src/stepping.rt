@@ -4,7 +4,7 @@ ghost use Rattle.std.specs.Prelude.{◌≡◌, ◌<◌, ◌+◌, true, false, No
 ghost use Rattle.kern_base.specs.declared.outcomes.Outcome.TheVariants.{Answered};
 ghost use Rattle.decisions.specs.Around.{IsAround, first_waiter};
 ghost use Rattle.kernel_records.specs.Deciding.{waiters_of};
-ghost use Rattle.kern_model.specs.Served.{program_serves};
+ghost use Rattle.served.specs.Served.{program_serves};
 ghost use Rattle.kern_model.specs.Services.{cost, posted, post_request};
 ghost use Rattle.kern_model.specs.Valid.{IsLinked};
 ghost use Rattle.kernel_calls.specs.KernelRecord.{ended, with_state, IsOpen};

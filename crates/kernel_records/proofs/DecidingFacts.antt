@@ -23,7 +23,7 @@ use Rattle.kern_model.specs.Call.{call_of}
 use Rattle.kern_model.specs.Effect.{refused}
 use Rattle.kern_model.specs.Checks.{argument, call_error, existence_error, first_error, is_deleted, named_task}
 use Rattle.kern_model.specs.Services.{content_for, effect, perform}
-use Rattle.kern_model.specs.Served.{program_serves}
+use Rattle.served.specs.Served.{program_serves}
 use Rattle.kern_model.specs.Micro.{Lists}
 use Rattle.kern_model.proofs.Lemmas.{checked_object}
 use Rattle.kern_laws.proofs.Lemmas.{named_object}

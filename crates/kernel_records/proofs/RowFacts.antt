@@ -24,7 +24,7 @@ use Rattle.kern_model.specs.FlagBits.{consumed}
 use Rattle.kern_model.specs.Options.{deletes_always, stores_first}
 use Rattle.kern_model.specs.Queues.{store_error, stored}
 use Rattle.kern_model.specs.Services.{after_checks, content_for, effect, perform}
-use Rattle.kern_model.specs.Served.{program_serves}
+use Rattle.served.specs.Served.{program_serves}
 use Rattle.kern_model.specs.Micro.{Lists}
 use Rattle.decisions.specs.Around.{IsAround}
 use Rattle.decisions.specs.Rows.{abort_decision, delete_decision, is_no_error, is_success, refusal, wait_decision}

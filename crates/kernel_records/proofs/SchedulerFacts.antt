@@ -17,7 +17,7 @@ use Rattle.kern_model.specs.State.{Kernel, is_zero, nesting_limit, task_at, time
 use Rattle.kern_model.specs.Call.{call_of}
 use Rattle.kern_model.specs.Checks.{call_error, named_task}
 use Rattle.kern_model.specs.Effect.{answer, blocks_on, done, fine, refused, waits_for}
-use Rattle.kern_model.specs.Served.{program_serves}
+use Rattle.served.specs.Served.{program_serves}
 use Rattle.kern_model.specs.Services.{perform}
 use Rattle.kern_model.specs.Tasks.{unlocks}
 use Rattle.kern_model.specs.Time.{delay_of, delays, resumes_delayed}

@@ -15,7 +15,7 @@ use Rattle.kern_base.specs.declared.outcomes.Decision.TheVariants.{Block}
 use Rattle.kern_model.specs.State.{Kernel, Content, Count, Messages, Bits, Held, Timed, count_of, task_at}
 use Rattle.kern_model.specs.Checks.{argument, call_error}
 use Rattle.kern_model.specs.Micro.{Lists}
-use Rattle.kern_model.specs.Served.{program_serves}
+use Rattle.served.specs.Served.{program_serves}
 use Rattle.kern_model.specs.Services.{content_for}
 use Rattle.decisions.specs.Decided.{wait_objects, wait_of}
 use Rattle.decisions.specs.Rows.{refusal, wait_decision}

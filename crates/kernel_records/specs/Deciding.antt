@@ -15,7 +15,7 @@ use Rattle.kern_model.specs.Micro.{Lists}
 use Rattle.kern_model.specs.Call.{call_of}
 use Rattle.kern_model.specs.Checks.{argument, call_error}
 use Rattle.kern_model.specs.Services.{content_for, effect, perform}
-use Rattle.kern_model.specs.Served.{program_serves}
+use Rattle.served.specs.Served.{program_serves}
 use Rattle.decisions.specs.Around.{IsAround}
 use Rattle.decisions.specs.Decided.{decided}
 use Rattle.decisions.specs.Rows.{is_no_error, refusal}

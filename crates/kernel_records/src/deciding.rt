@@ -7,7 +7,7 @@ ghost use Rattle.kern_base.specs.declared.outcomes.Who.TheVariants.{Matching};
 ghost use Rattle.kern_model.specs.State.{object_at, task_at};
 ghost use Rattle.kern_model.specs.Checks.{call_error};
 ghost use Rattle.kern_model.specs.Services.{content_for};
-ghost use Rattle.kern_model.specs.Served.{program_serves};
+ghost use Rattle.served.specs.Served.{program_serves};
 ghost use Rattle.task_objects.specs.Rows.{is_task_call, target};
 ghost use Rattle.kernel_records.specs.Concluding.{bits_left};
 ghost use Rattle.kernel_records.specs.Served.{serves_object};
@@ -20,10 +20,11 @@ use crate::objects::Content;
 use crate::records::Records;
 use crate::scheduler_calls::is_scheduler_call;
 use crate::task_calls::{is_task_call, target};
-use call_checks::{argument_refusal, existence_refusal, is_served, named_task};
+use call_checks::{argument_refusal, existence_refusal, named_task};
 use decisions::refuse;
 use kern_base::{Around, Decision, ObjId, OsErr, Request, TaskId};
 use message_store::MessageStore;
+use served::is_served;
 
 // Application tasks have the numbers below this.
 const APPLICATION_LIMIT: u8 = 60;

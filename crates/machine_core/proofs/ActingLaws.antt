@@ -5,7 +5,7 @@ use Rattle.std.proofs.Common.{◌≡◌, ◌<◌, ◌≤◌, ℕ, Bool, true, fa
 use Rattle.kern_base.specs.declared.kinds.Method.{Method}
 use Rattle.kern_base.specs.declared.outcomes.Waiting.TheVariants.{Signal}
 use Rattle.kern_model.specs.State.{Kernel, Task, task_at, no_task, is_ready}
-use Rattle.kern_model.specs.Served.{program_serves}
+use Rattle.served.specs.Served.{program_serves}
 use Rattle.kern_model.specs.Valid.{IsLinked}
 use Rattle.kern_model.proofs.Lemmas.{unequal}
 use Rattle.machine_laws.specs.Valid.{IsValidMachine}

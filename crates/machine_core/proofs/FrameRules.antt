@@ -12,7 +12,7 @@ use Rattle.kern_base.specs.declared.errors.OsErr.TheVariants.{CallUnknown}
 use Rattle.kern_base.specs.declared.outcomes.Answer.{Answer}
 use Rattle.kern_base.specs.declared.services.Service.{Service}
 use Rattle.kern_model.specs.State.{Kernel, prio_of, kinds_of}
-use Rattle.kern_model.specs.Served.{program_serves}
+use Rattle.served.specs.Served.{program_serves}
 use Rattle.kern_model.proofs.Lemmas.{choice}
 use Rattle.kernel_calls.specs.KernelRecord.{KernelRecord}
 use Rattle.rv32_exec.specs.Registers.{Registers, read}

@@ -1,7 +1,7 @@
 -- What is always true of the machine's fields stays true with each event.
 use Rattle.std.proofs.Common.{◌≡◌, ◌<◌, ◌≤◌, ℕ, ◌+◌, sym, ap, ◌∙◌, subst, arith}
 use Rattle.kern_base.specs.declared.kinds.Method.{Method}
-use Rattle.kern_model.specs.Served.{program_serves}
+use Rattle.served.specs.Served.{program_serves}
 use Rattle.machine_core.specs.MachineView.{Parts}
 use Rattle.machine_model.specs.Machine.{Machine}
 use Rattle.machine_model.specs.Bound.{events_left}

@@ -11,7 +11,7 @@ use Rattle.kern_model.specs.Call.{call_of}
 use Rattle.kern_model.specs.State.{Kernel, Object, kind_of, kinds_of}
 use Rattle.kern_model.specs.Effect.{Effect}
 use Rattle.kern_model.specs.Micro.{Halves}
-use Rattle.kern_model.specs.Served.{program_serves}
+use Rattle.served.specs.Served.{program_serves}
 use Rattle.kern_model.specs.Services.{half}
 use Rattle.kernel_calls.specs.KernelRecord.{halves_by, halves_in}
 use Rattle.kernel_calls.specs.Works.{WorkRecord}

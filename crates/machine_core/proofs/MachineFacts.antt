@@ -19,7 +19,7 @@ use Rattle.kern_model.specs.State.{Kernel, task_at, prio_of}
 use Rattle.kern_model.specs.Effect.{Effect}
 use Rattle.kern_model.specs.Finish.{finished}
 use Rattle.kern_model.specs.Valid.{has_result}
-use Rattle.kern_model.specs.Served.{program_serves}
+use Rattle.served.specs.Served.{program_serves}
 use Rattle.kern_model.specs.Services.{post_request, cost}
 use Rattle.kernel_calls.specs.KernelRecord.{KernelRecord, IsOpen, ended, with_state}
 use Rattle.kernel_calls.specs.Works.{WorkRecord, begun, effect_of, stepped}

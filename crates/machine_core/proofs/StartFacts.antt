@@ -11,7 +11,7 @@ use Rattle.kern_base.specs.declared.kinds.Kind.TheVariants.{Sem, Queue, Flags, M
 use Rattle.kern_base.specs.Tables.{KindTable}
 use Rattle.kern_model.specs.State.{Object, kind_of, kinds_of, pick}
 use Rattle.kern_model.specs.Start.{start_state, content_of, object_of}
-use Rattle.kern_model.specs.Served.{program_serves}
+use Rattle.served.specs.Served.{program_serves}
 use Rattle.kern_model.proofs.Lemmas.{choice, equal, or_either}
 use Rattle.app_image.specs.Image.{ImageRecord, IsValidImage, IsValidVector, kind_table}
 use Rattle.app_image.specs.declared.records.ObjDef.{ObjDef}

@@ -26,7 +26,7 @@ use Rattle.kern_model.specs.Semaphores.{sem_post_to, sem_post, sem_pend}
 use Rattle.kern_model.specs.Tasks.{sched_lock, sched_unlock, unlocks}
 use Rattle.kern_model.specs.Time.{delay_of, delays, resumes_delayed, time_dly}
 use Rattle.kern_model.specs.Waiters.{aborts, delete, deletes, pend_abort, without_object}
-use Rattle.kern_model.specs.Served.{program_serves}
+use Rattle.served.specs.Served.{program_serves}
 use Rattle.kern_model.specs.Services.{effect, after_checks, perform}
 use Rattle.kern_model.specs.Finish.{finished, finished_with, consumed_content, consumed_object, consumed_in, flags_consumed}
 use Rattle.kern_model.specs.Stop.{stopped}

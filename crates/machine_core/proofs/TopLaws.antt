@@ -3,7 +3,7 @@ use Rattle.std.specs.Prelude.{drop, if◌then◌else◌, option_map, slice_get, 
 use Rattle.std.proofs.Common.{◌≡◌, ◌<◌, ◌+◌, ◌∙◌, ℕ, Bool, true, false, List, [], ◌∷◌, Some, refl, ap}
 use Rattle.kern_base.specs.declared.services.Service.{Service}
 use Rattle.kern_base.specs.declared.errors.OsErr.TheVariants.{CallUnknown}
-use Rattle.kern_model.specs.Served.{program_serves}
+use Rattle.served.specs.Served.{program_serves}
 use Rattle.kern_base.specs.declared.outcomes.Answer.{Answer}
 use Rattle.kern_base.specs.Tables.{KindTable}
 use Rattle.kern_base.specs.Services.{interrupt_error, is_post, service_of}

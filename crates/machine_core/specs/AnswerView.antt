@@ -7,7 +7,7 @@ use Rattle.kern_base.specs.declared.outcomes.Outcome.{Outcome}
 use Rattle.kern_base.specs.declared.outcomes.Outcome.TheVariants.{Answered, Waits, Gone}
 use Rattle.kern_base.specs.declared.requests.Request.{Request}
 use Rattle.kern_model.specs.State.{task_at, prio_of}
-use Rattle.kern_model.specs.Served.{program_serves}
+use Rattle.served.specs.Served.{program_serves}
 use Rattle.kern_model.specs.Finish.{finished}
 use Rattle.rv32_exec.specs.Registers.{no_registers}
 use Rattle.kernel_calls.specs.KernelRecord.{KernelRecord, with_state}

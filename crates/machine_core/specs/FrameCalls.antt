@@ -9,7 +9,7 @@ use Rattle.kern_base.specs.declared.outcomes.Answer.{Answer}
 use Rattle.kern_base.specs.declared.errors.OsErr.{OsErr}
 use Rattle.kern_base.specs.declared.errors.OsErr.TheVariants.{CallUnknown}
 use Rattle.kern_model.specs.State.{Kernel}
-use Rattle.kern_model.specs.Served.{program_serves}
+use Rattle.served.specs.Served.{program_serves}
 use Rattle.kern_model.specs.Effect.{answer}
 use Rattle.rv32_exec.specs.Registers.{Registers, no_registers, read}
 use Rattle.rv32_exec.specs.Exec.{Execution, exec}

@@ -4,7 +4,7 @@ use Rattle.kern_base.specs.Tables.{KindTable}
 use Rattle.kern_base.specs.declared.kinds.Method.{Method}
 use Rattle.kern_base.specs.declared.kinds.Method.TheVariants.{Deferred}
 use Rattle.kern_model.specs.State.{kinds_of, prio_of}
-use Rattle.kern_model.specs.Served.{program_serves}
+use Rattle.served.specs.Served.{program_serves}
 use Rattle.kernel_calls.specs.KernelRecord.{KernelRecord, with_state}
 use Rattle.isr_nesting.specs.Nest.{Nest}
 use Rattle.deferred_queue.specs.QueueRecord.{QueueRecord}

@@ -2,7 +2,7 @@
 use Rattle.std.specs.Prelude.{ℕ, List, ◌≡◌, ◌<◌, ◌≤◌, ◌+◌, ◌==◌, Bool, true, false, All, Option, Some, None, length}
 use Rattle.app_image.specs.declared.settings.Config.{Config}
 use Rattle.kern_model.specs.State.{kinds_of}
-use Rattle.kern_model.specs.Served.{program_serves}
+use Rattle.served.specs.Served.{program_serves}
 use Rattle.kern_model.specs.Services.{post_request}
 use Rattle.kernel_calls.specs.Works.{WorkRecord}
 use Rattle.kernel_calls.specs.KernelRecord.{KernelRecord}

@@ -1,6 +1,6 @@
 -- A machine together with the way in which its interrupt code posts.
 use Rattle.kern_base.specs.declared.kinds.Method.{Method}
-use Rattle.kern_model.specs.Served.{program_serves}
+use Rattle.served.specs.Served.{program_serves}
 use Rattle.machine_model.specs.declared.events.Event.{Event}
 use Rattle.machine_model.specs.Machine.{Machine}
 use Rattle.machine_model.specs.Rules.{next}

@@ -4,7 +4,7 @@ use Rattle.kern_base.specs.declared.services.Service.{Service}
 use Rattle.kern_base.specs.declared.outcomes.Answer.{Answer}
 use Rattle.kern_base.specs.declared.errors.OsErr.TheVariants.{InterruptQueueFull}
 use Rattle.kern_model.specs.Effect.{answer, fine}
-use Rattle.kern_model.specs.Served.{program_serves}
+use Rattle.served.specs.Served.{program_serves}
 use Rattle.kern_model.specs.Services.{posted}
 use Rattle.kernel_calls.specs.KernelRecord.{KernelRecord, with_state}
 use Rattle.machine_model.specs.Queue.{Queued, queued}

@@ -4,7 +4,7 @@ ghost use Rattle.std.specs.Prelude.{◌≡◌, ◌<◌, ◌≤◌, ℕ, true, Li
 ghost use Rattle.kern_model.specs.State.{task_at};
 ghost use Rattle.kern_model.specs.Valid.{has_result};
 ghost use Rattle.kern_model.specs.Finish.{finished};
-ghost use Rattle.kern_model.specs.Served.{program_serves};
+ghost use Rattle.served.specs.Served.{program_serves};
 ghost use Rattle.rv32_exec.specs.Registers.{no_registers, read};
 ghost use Rattle.machine_model.specs.Answers.{arguments, with_answer, with_table, returned, size_or_zero};
 ghost use Rattle.machine_model.specs.Acts.{request_of, called};

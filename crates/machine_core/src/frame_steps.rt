@@ -4,7 +4,7 @@ ghost use Rattle.std.specs.Prelude.{◌≡◌, ◌==◌, ◌<◌, ◌-◌, ◌^�
 ghost use Rattle.kern_base.specs.Numbers.{leave};
 ghost use Rattle.kern_base.specs.Services.{service_of};
 ghost use Rattle.kern_base.specs.Checks.{static_error};
-ghost use Rattle.kern_model.specs.Served.{program_serves};
+ghost use Rattle.served.specs.Served.{program_serves};
 ghost use Rattle.rv32_exec.specs.Registers.{read};
 ghost use Rattle.machine_model.specs.Frames.{none_stands};
 ghost use Rattle.machine_model.specs.Marks.{marks_after, next_instruction, reads_result};
@@ -18,11 +18,12 @@ ghost use Rattle.machine_core.specs.IsrStep.{HasParts, IsStepOf};
 use crate::answers::arguments;
 use crate::posts::Posts;
 use crate::{How, What};
-use call_checks::{interrupt_error, is_post, is_served};
+use call_checks::{interrupt_error, is_post};
 use deferred_queue::DeferredQueue;
 use isr_nesting::Frames;
 use kern_base::{Answer, Kinds, LEAVE, OsErr, Post, Prio, Service, static_refusal};
 use rv32_exec::{Program, Ram, Stepped};
+use served::is_served;
 
 const A0: u8 = 10;
 

@@ -7,7 +7,7 @@ ghost use Rattle.machine_model.specs.Marks.{reads_result};
 ghost use Rattle.machine_model.specs.Rules.{rule, FrameRuns};
 ghost use Rattle.machine_model.specs.declared.events.What.TheVariants.{Irq};
 ghost use Rattle.kern_base.specs.declared.kinds.Method.TheVariants.{Direct};
-ghost use Rattle.kern_model.specs.Served.{program_serves};
+ghost use Rattle.served.specs.Served.{program_serves};
 ghost use Rattle.isr_nesting.specs.Nest.{waiting_at, without_number};
 ghost use Rattle.machine_model.specs.Machine.{Machine as State};
 ghost use Rattle.machine_core.specs.FrameCalls.{task_below, top_of};

@@ -1,7 +1,7 @@
 // The machine and its events.
 
 ghost use Rattle.std.specs.Prelude.{◌≡◌, ◌<◌, ◌≤◌, ◌&&◌, not, ℕ, true, false, None, All, IfOk, is_some, length, map};
-ghost use Rattle.kern_model.specs.Served.{program_serves};
+ghost use Rattle.served.specs.Served.{program_serves};
 ghost use Rattle.app_image.specs.Image.{kind_table};
 ghost use Rattle.inject_list.specs.Lists.{IsValidList};
 ghost use Rattle.links.specs.Nodes.{AreOwn};

@@ -2,7 +2,7 @@
 
 ghost use Rattle.std.specs.Prelude.{◌≡◌, ◌==◌, ◌<◌, ℕ, List, true, false, [], IsSome, IsSomeAnd, None};
 ghost use Rattle.kern_model.specs.State.{task_at, is_ready};
-ghost use Rattle.kern_model.specs.Served.{program_serves};
+ghost use Rattle.served.specs.Served.{program_serves};
 ghost use Rattle.kern_model.specs.Valid.{MayCall};
 ghost use Rattle.kernel_calls.specs.KernelRecord.{KernelRecord};
 ghost use Rattle.machine_model.specs.Settling.{settled_task};

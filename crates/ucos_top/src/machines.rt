@@ -2,7 +2,7 @@
 
 ghost use Rattle.std.specs.Prelude.{◌≡◌, IfOk};
 ghost use Rattle.inject_list.specs.Lists.{IsValidList};
-ghost use Rattle.kern_model.specs.Served.{program_serves};
+ghost use Rattle.served.specs.Served.{program_serves};
 ghost use Rattle.machine_model.specs.Machine.{start};
 ghost use Rattle.machine_laws.specs.Valid.{IsValidMachine};
 

@@ -1,5 +1,5 @@
 use Rattle.std.proofs.Common.{sym, ap}
-use Rattle.kern_model.specs.Served.{program_serves}
+use Rattle.served.specs.Served.{program_serves}
 use Rattle.machine_model.specs.Frames.{FrameRecord}
 use Rattle.machine_model.specs.Marks.{marks_after, next_instruction, reads_result}
 use Rattle.isr_nesting.specs.FrameView.{frame_record, mark_list}

@@ -2,7 +2,7 @@ use Rattle.std.proofs.Common.{◌≡◌}
 use Rattle.app_image.specs.Image.{ImageRecord}
 use Rattle.inject_list.specs.Lists.{ListRecord}
 use Rattle.kern_base.specs.declared.kinds.Method.TheVariants.{Direct, Deferred}
-use Rattle.kern_model.specs.Served.{program_serves}
+use Rattle.served.specs.Served.{program_serves}
 use Rattle.machine_model.specs.Run.{Run, history}
 use Rattle.program_model.specs.Both.{run_of}
 use Rattle.ucos_top.proofs.both.histories_agree.Goals as goal

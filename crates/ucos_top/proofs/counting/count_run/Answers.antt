@@ -1,5 +1,5 @@
 use Rattle.std.proofs.Common.{◌≡◌, ◌++◌, ◌+◌, ◌<◌, [], ◌∷◌, length, ap, ◌∙◌, sym, arith, refl, length-append}
-use Rattle.kern_model.specs.Served.{program_serves}
+use Rattle.served.specs.Served.{program_serves}
 use Rattle.machine_model.specs.Machine.{Machine}
 use Rattle.machine_model.specs.Rules.{next}
 use Rattle.machine_model.specs.Bound.{events_left}

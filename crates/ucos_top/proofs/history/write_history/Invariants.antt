@@ -1,6 +1,6 @@
 use Rattle.std.proofs.Common.{◌≡◌, ◌≤◌, List, ℕ}
 use Rattle.std.specs.Io.KnownBytes.{Appends}
-use Rattle.kern_model.specs.Served.{program_serves}
+use Rattle.served.specs.Served.{program_serves}
 use Rattle.inject_list.specs.Lists.{ListRecord}
 use Rattle.machine_model.specs.declared.events.Event.{Event}
 use Rattle.machine_model.specs.Machine.{start}

@@ -6,7 +6,7 @@ use Rattle.kern_model.specs.State.{list_at}
 use Rattle.kern_model.specs.Micro.{Halves, lists_of}
 use Rattle.kern_model.specs.Checks.{argument}
 use Rattle.kern_model.specs.Call.{call_of}
-use Rattle.kern_model.specs.Served.{program_serves}
+use Rattle.served.specs.Served.{program_serves}
 use Rattle.kern_model.specs.Services.{effect}
 use Rattle.kern_model.specs.Valid.{IsLinked}
 use Rattle.micro_steps.specs.Halfway.{tasks_in}

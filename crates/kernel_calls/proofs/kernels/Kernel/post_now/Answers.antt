@@ -1,7 +1,7 @@
 use Rattle.std.proofs.Common.{◌≡◌, ℕ, List, Option, Bool, ◌<◌, ◌+◌, sym, ap, ◌∙◌, subst, Some, None, inl, inr, true, false}
 use Rattle.kern_base.specs.declared.services.Service.{Service}
 use Rattle.kern_base.specs.declared.outcomes.Outcome.{Outcome}
-use Rattle.kern_model.specs.Served.{program_serves}
+use Rattle.served.specs.Served.{program_serves}
 use Rattle.kern_model.specs.Services.{cost, posted}
 use Rattle.kernel_calls.specs.KernelRecord.{KernelRecord, ended}
 use Rattle.kernel_calls.specs.Works.{IsPlainAnswer, WorkRecord, effect_of, stepped}

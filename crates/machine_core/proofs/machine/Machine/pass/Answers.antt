@@ -1,5 +1,5 @@
 use Rattle.std.proofs.Common.{◌≡◌, ◌<◌, ◌∙◌, sym, ap}
-use Rattle.kern_model.specs.Served.{program_serves}
+use Rattle.served.specs.Served.{program_serves}
 use Rattle.machine_model.specs.Rules.{Rule, marks}
 use Rattle.machine_core.specs.MachineView.{machine_of, parts}
 use Rattle.machine_core.specs.Valid.{change}

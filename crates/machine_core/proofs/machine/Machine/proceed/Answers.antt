@@ -1,6 +1,6 @@
 use Rattle.std.proofs.Common.{refl, ◌≡◌, ◌<◌, ◌∙◌, ◌∷◌, sym, ap, subst, arith}
 use Rattle.std.specs.Prelude.{drop}
-use Rattle.kern_model.specs.Served.{program_serves}
+use Rattle.served.specs.Served.{program_serves}
 use Rattle.machine_model.specs.Frames.{FrameRecord}
 use Rattle.machine_model.specs.Marks.{reads_result}
 use Rattle.isr_nesting.specs.FrameView.{frame_record}

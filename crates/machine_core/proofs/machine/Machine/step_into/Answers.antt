@@ -1,5 +1,5 @@
 use Rattle.std.proofs.Common.{rules, ◌≡◌, subst}
-use Rattle.kern_model.specs.Served.{program_serves}
+use Rattle.served.specs.Served.{program_serves}
 use Rattle.machine_core.specs.MethodMachine.{MethodMachine, next_machine}
 use Rattle.machine_laws.specs.Valid.{IsValidMachine}
 use Rattle.machine_laws.proofs.Lemmas.{events_left-next}
