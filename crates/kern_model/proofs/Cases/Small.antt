@@ -1,5 +1,5 @@
 -- Small cases of the services, computed.
-use Rattle.kern_model.proofs.Common.{call_of, ℕ, ◌≡◌, refl, [], ◌∷◌, ◌++◌, None, Some, true, false, replicate, List, Service, SemPost, SemPend, QPost, Request, CallUnknown, ObjectType, SemOverflow, WouldBlock, SchedLocked, OptionInvalid, Answered, No, Obj, Signal, Kernel, Task, Count, no_task, pick, task_at, object_at, answer, fine, plain_result, effect, posted, post_request, cost}
+use Rattle.kern_model.proofs.Common.{call_of, ℕ, ◌≡◌, refl, [], ◌∷◌, ◌++◌, None, Some, true, false, replicate, List, Service, SemPost, SemPend, QPost, Request, CallUnknown, ObjectType, SemOverflow, WouldBlock, SchedLocked, OptionInvalid, Answered, No, Obj, Signal, Kernel, Task, Count, no_task, pick, task_at, object_at, answer, fine, plain_result, effect, posted, post_request, cost, serves_all}
 use Rattle.kern_model.specs.Finish.{finished}
 use Rattle.kern_model.specs.Stop.{stopped}
 
