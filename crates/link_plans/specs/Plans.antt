@@ -79,7 +79,7 @@ block_links ts x os =
 
 -- what is left of a decision
 abbrev pub decision_left : Decision → List Task → Plan → List Link
-decision_left (Done a) ts q = []
+decision_left (Done a) ts q = drop q.made q.known.items
 decision_left Block ts q = drop q.made (block_links ts q.caller.0 q.objects.items)
 decision_left (Wake w) ts q = woken_left w ts q
 

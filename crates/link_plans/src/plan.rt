@@ -23,6 +23,8 @@ pub struct Plan {
     pub objects: ArrayVec<u8, 8>,
     /// The tasks that are woken, in order; of a post of event flags all that wait for the group, each of which is looked at.
     pub woken: ArrayVec<u8, 64>,
+    /// The links, known when the step begins, of a call that is answered.
+    pub known: ArrayVec<Link, 4>,
     /// The bits of the event flag group that a post leaves; 0 in any other plan.
     pub bits: u32,
     /// How many of these tasks are done with.
@@ -40,12 +42,12 @@ impl Plan {
         requires objects { All (λ o. o < 64) self.old.objects.items }
         requires woken { All (λ x. x < 64) self.old.woken.items }
         ensures next { MatchOption result (links_left tasks.now.tasks self.old ≡ []) (λ link. links_left tasks.now.tasks self.old ≡ link ∷ links_left tasks.now.tasks self.new) }
-        ensures kept { (self.new.decision ≡ self.old.decision) × (self.new.caller ≡ self.old.caller) × (self.new.compared ≡ self.old.compared) × (self.new.objects ≡ self.old.objects) × (self.new.woken ≡ self.old.woken) × (self.new.bits ≡ self.old.bits) }
+        ensures kept { (self.new.decision ≡ self.old.decision) × (self.new.caller ≡ self.old.caller) × (self.new.compared ≡ self.old.compared) × (self.new.objects ≡ self.old.objects) × (self.new.woken ≡ self.old.woken) × (self.new.known ≡ self.old.known) × (self.new.bits ≡ self.old.bits) }
         ensures ended { self.old.ended ≡ true → self.new.ended ≡ true }
         ensures none { result ≡ None → links_left tasks.now.tasks self.new ≡ [] }
     {
         let next = match self.decision {
-            Decision::Done(_) => None,
+            Decision::Done(_) => self.next_known(),
             Decision::Block => self.next_of_block(tasks),
             Decision::Wake(who) => self.next_of_wakes(who, tasks),
         };
@@ -56,11 +58,26 @@ impl Plan {
         next
     }
 
+    // The links that were known, one after another.
+    fn next_known(&mut self) -> Option<Link>
+        ensures next { MatchOption result (drop self.old.made self.old.known.items ≡ []) (λ link. drop self.old.made self.old.known.items ≡ link ∷ drop self.new.made self.old.known.items) }
+        ensures kept { (self.new.decision ≡ self.old.decision) × (self.new.caller ≡ self.old.caller) × (self.new.compared ≡ self.old.compared) × (self.new.objects ≡ self.old.objects) × (self.new.woken ≡ self.old.woken) × (self.new.known ≡ self.old.known) × (self.new.bits ≡ self.old.bits) }
+        ensures others { (self.new.task ≡ self.old.task) × (self.new.ended ≡ self.old.ended) }
+        ensures none { result ≡ None → self.new.made ≡ self.old.made }
+    {
+        let made = self.made as usize;
+        if made >= self.known.len() {
+            return None;
+        }
+        self.made += 1;
+        Some(self.known[made])
+    }
+
     // The caller leaves its ready list, and waits for one object after another.
     fn next_of_block(&mut self, tasks: &Tcbs) -> Option<Link>
         requires caller { self.old.caller.0 < 64 }
         ensures next { MatchOption result (drop self.old.made (block_links tasks.now.tasks self.old.caller.0 self.old.objects.items) ≡ []) (λ link. drop self.old.made (block_links tasks.now.tasks self.old.caller.0 self.old.objects.items) ≡ link ∷ drop self.new.made (block_links tasks.now.tasks self.old.caller.0 self.old.objects.items)) }
-        ensures kept { (self.new.decision ≡ self.old.decision) × (self.new.caller ≡ self.old.caller) × (self.new.compared ≡ self.old.compared) × (self.new.objects ≡ self.old.objects) × (self.new.woken ≡ self.old.woken) × (self.new.bits ≡ self.old.bits) }
+        ensures kept { (self.new.decision ≡ self.old.decision) × (self.new.caller ≡ self.old.caller) × (self.new.compared ≡ self.old.compared) × (self.new.objects ≡ self.old.objects) × (self.new.woken ≡ self.old.woken) × (self.new.known ≡ self.old.known) × (self.new.bits ≡ self.old.bits) }
         ensures others { (self.new.task ≡ self.old.task) × (self.new.ended ≡ self.old.ended) }
         ensures none { result ≡ None → self.new.made ≡ self.old.made }
     {
@@ -83,7 +100,7 @@ impl Plan {
     fn next_of_wakes(&mut self, who: Who, tasks: &Tcbs) -> Option<Link>
         requires woken { All (λ x. x < 64) self.old.woken.items }
         ensures next { MatchOption result (woken_left who tasks.now.tasks self.old ≡ []) (λ link. woken_left who tasks.now.tasks self.old ≡ link ∷ woken_left who tasks.now.tasks self.new) }
-        ensures kept { (self.new.decision ≡ self.old.decision) × (self.new.caller ≡ self.old.caller) × (self.new.compared ≡ self.old.compared) × (self.new.objects ≡ self.old.objects) × (self.new.woken ≡ self.old.woken) × (self.new.bits ≡ self.old.bits) }
+        ensures kept { (self.new.decision ≡ self.old.decision) × (self.new.caller ≡ self.old.caller) × (self.new.compared ≡ self.old.compared) × (self.new.objects ≡ self.old.objects) × (self.new.woken ≡ self.old.woken) × (self.new.known ≡ self.old.known) × (self.new.bits ≡ self.old.bits) }
         ensures others { self.new.ended ≡ self.old.ended }
         ensures none { result ≡ None → woken_left who tasks.now.tasks self.new ≡ [] }
     {

@@ -27,7 +27,7 @@ impl RenewalPlan {
         requires movers { All (λ m. m.task.0 < 64) self.old.moves.moves.items }
         requires ended { self.old.plan.ended ≡ true }
         ensures next { MatchOption result (renewal_left tasks.now.tasks self.old ≡ []) (λ link. renewal_left tasks.now.tasks self.old ≡ link ∷ renewal_left tasks.now.tasks self.new) }
-        ensures plan { (self.new.plan.decision ≡ self.old.plan.decision) × (self.new.plan.caller ≡ self.old.plan.caller) × (self.new.plan.compared ≡ self.old.plan.compared) × (self.new.plan.objects ≡ self.old.plan.objects) × (self.new.plan.woken ≡ self.old.plan.woken) × (self.new.plan.bits ≡ self.old.plan.bits) × (self.new.plan.ended ≡ true) }
+        ensures plan { (self.new.plan.decision ≡ self.old.plan.decision) × (self.new.plan.caller ≡ self.old.plan.caller) × (self.new.plan.compared ≡ self.old.plan.compared) × (self.new.plan.objects ≡ self.old.plan.objects) × (self.new.plan.woken ≡ self.old.plan.woken) × (self.new.plan.known ≡ self.old.plan.known) × (self.new.plan.bits ≡ self.old.plan.bits) × (self.new.plan.ended ≡ true) }
         ensures moves { (self.new.moves.moves ≡ self.old.moves.moves) × (self.new.moves.tail ≡ self.old.moves.tail) }
     {
         let own = self.plan.next_link(tasks);

@@ -20,5 +20,6 @@ loop-self-preserved c =
       caller = c.loop-self.invariant.caller;
       compared = c.loop-self.invariant.compared;
       objects = c.loop-self.invariant.objects;
+      known = c.loop-self.invariant.known;
       ended = c.loop-self.invariant.ended;
     }

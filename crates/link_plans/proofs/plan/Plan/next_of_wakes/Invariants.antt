@@ -12,6 +12,7 @@ invariant-loop-self l =
       caller : l.self.caller ≡ l.initial.self.caller;
       compared : l.self.compared ≡ l.initial.self.compared;
       objects : l.self.objects ≡ l.initial.self.objects;
+      known : l.self.known ≡ l.initial.self.known;
       ended : l.self.ended ≡ l.initial.self.ended;
     }
 
