@@ -1,6 +1,6 @@
 -- A whole step that begins: what was decided of a call is planned, and its first micro-step is in hand.
-use Rattle.std.proofs.Common.{◌≡◌, ℕ, ◌<◌, ◌+◌, ◌*◌, ◌/◌, List, [], ◌∷◌, ◌++◌, length, refl, sym, ap, ◌∙◌, subst, true, false, arith}
-use Rattle.std.specs.Prelude.{◌==◌, ◌&&◌, ◌≤◌}
+use Rattle.std.proofs.Common.{Bool, ◌≡◌, ℕ, ◌<◌, ◌+◌, ◌*◌, ◌/◌, List, [], ◌∷◌, ◌++◌, length, refl, sym, ap, ◌∙◌, subst, true, false, arith}
+use Rattle.std.specs.Prelude.{◌==◌, ◌&&◌, ◌≤◌, if◌then◌else◌}
 use Rattle.std.proofs.lemmas.Bool.{false≢true}
 use Rattle.kern_base.specs.Services.{is_post}
 use Rattle.kern_base.specs.declared.numbers.Prio.{Prio}
@@ -12,6 +12,7 @@ use Rattle.kern_base.specs.declared.outcomes.Decision.{Decision}
 use Rattle.kern_base.specs.declared.outcomes.Decision.TheVariants.{Done, Block, Wake}
 use Rattle.kern_base.specs.declared.outcomes.Who.TheVariants.{First, All as Every, Matching}
 use Rattle.kern_model.specs.State.{Kernel, Task, count_of, is_zero, place_of, task_at, task_in, waits_for_nothing}
+use Rattle.kern_model.specs.Checks.{named_task}
 use Rattle.kern_model.specs.Micro.{Halves, Lists, Micro, in_order, lists_of, plain, whole}
 use Rattle.kern_model.specs.Effect.{Effect, blocks_on, chosen}
 use Rattle.kern_model.specs.Services.{blocks, content_for, cost}
@@ -28,17 +29,22 @@ use Rattle.link_plans.proofs.Lemmas.{links_keep}
 use Rattle.decisions.specs.Around.{IsAround}
 use Rattle.decisions.specs.Decided.{bits_in, decided, wait_of, wakes_matching}
 use Rattle.tick_timers.specs.Matches.{IsUnmatched}
-use Rattle.kernel_records.specs.Deciding.{IsServedDecision, decision_of, own_change, waiters_of}
+use Rattle.kernel_records.specs.Suspension.{moves_task, suspension_of}
+use Rattle.kernel_records.specs.Deciding.{IsServedDecision, decision_of, effect_by, own_change, waiters_of}
+use Rattle.kernel_records.proofs.DecidingFacts.{effect-decided, effect-moved}
+use Rattle.kernel_records.proofs.SuspensionFacts.{IsMoving, is-moving, moved-inside, moves-done}
 use Rattle.kernel_records.specs.Concluding.{objects_waited, woken_of}
 use Rattle.kernel_records.specs.Served.{is_served_wait}
 use Rattle.kernel_records.proofs.ConcludingFacts.{all-posts, plain-flags, plain-wait}
 use Rattle.kernel_records.proofs.RowFacts.{beside, own-block}
+use Rattle.kernel_calls.specs.Moving.{known_links, moved_links}
+use Rattle.kernel_calls.proofs.MoveCase.{move-links}
 use Rattle.kernel_calls.specs.Works.{MayBegin, WorkRecord, effect_of}
 use Rattle.kernel_calls.specs.Stepping.{AreNodes, HasPrios, IsInHand, IsPast, IsPlanned, IsResting, planned_bits, prios_over}
 use Rattle.kernel_calls.specs.KernelView.{state_with}
 use Rattle.kernel_calls.proofs.StepFacts.{below-cost, may-call}
 use Rattle.kernel_calls.proofs.EndFacts.{objects-kept}
-use Rattle.kernel_calls.proofs.LinkFacts.{blocks-end, fit-end, links-fresh, links_of, lists-end, prios-end}
+use Rattle.kernel_calls.proofs.LinkFacts.{AreLinksOf, blocks-end, fit-end, links-fresh, links_of, lists-end, prios-end}
 use Rattle.kernel_calls.proofs.WakeCase.{wake-blocks, wake-fits, wake-nodes, wake-prios}
 use Rattle.kernel_calls.proofs.BlockCase.{block-blocks, block-fits, block-nodes, block-prios}
 use Rattle.kernel_calls.proofs.FlagCase.{flags-blocks, flags-fit, flags-nodes, flags-prios}
@@ -55,13 +61,6 @@ wait-posts TaskSemPend h = refl
 wait-posts TaskQPend h = refl
 wait-posts TimeDly h = refl
 wait-posts _ h = absurd (false≢true h)
-
--- The links of an effect on these lists of nodes: they fit, they are its blocks, and their nodes and priorities are those after it.
-pub record AreLinksOf (e : Effect) (n : ℕ) (prios : List Prio) (ks : List Link) (l : Lists) : Type 0 where
-  pub fits : AreFit n prios ks l
-  pub blocks : task_blocks prios ks ≡ e.blocks
-  pub noded : IsNoded e.kernel.tasks (lists_after prios ks l).pend
-  pub listed : HasPrios e.kernel (prios_over ks prios)
 
 module _ (w : WorkRecord) (q : Plan) (around : Around) (k : Kernel) (l : Lists) (prios : List Prio) where
   -- who waits for what the call is about
@@ -135,16 +134,39 @@ module _ (w : WorkRecord) (q : Plan) (around : Around) (k : Kernel) (l : Lists) 
           listed = λ y. p y ∙ sym (own-keeps (λ (t : Task). t.prio) (λ t m ms. refl) w.request w.caller (Done b) k y);
         }
 
-    pub links-decided : (d : Decision) → d ≡ decision_of w.request around k → IsServedDecision d w.request.service → q.objects.items ≡ objects_waited d w.request → q.woken.items ≡ woken_of d ws → q.bits ≡ planned_bits d w.request w.caller k → AreLinksOf (what d) (length k.objects) prios (links_of d k.tasks q) l
-    links-decided (Done b) e s os is bits = links-done b
-    links-decided Block e s os is bits = links-block e s os
-    links-decided (Wake First) e s os is bits =
+    links-decided : (d : Decision) → d ≡ decision_of w.request around k → IsServedDecision d w.request.service → q.objects.items ≡ objects_waited d w.request → q.woken.items ≡ woken_of d ws → q.bits ≡ planned_bits d w.request w.caller k → q.known.items ≡ [] → AreLinksOf (what d) (length k.objects) prios (links_of d k.tasks q) l
+    links-decided (Done b) e s os is bits none = subst (λ ks. AreLinksOf (what (Done b)) (length k.objects) prios ks l) (sym none) (links-done b)
+    links-decided Block e s os is bits none = links-block e s os
+    links-decided (Wake First) e s os is bits none =
         links-wake (chosen false ws) (what (Wake First)) (AllWait-chosen k false ws (AllWait-waiters w.request w.caller k v)) is
         (is-waking First w.request w.caller w.compared (chosen false ws) k s)
-    links-decided (Wake Every) e s os is bits =
+    links-decided (Wake Every) e s os is bits none =
         links-wake ws (what (Wake Every)) (AllWait-waiters w.request w.caller k v) is
         (is-waking Every w.request w.caller w.compared ws k (all-posts w.request.service s))
-    links-decided (Wake Matching) e s os is bits = links-flags s is bits
+    links-decided (Wake Matching) e s os is bits none = links-flags s is bits
+
+    -- a call that suspends a task or resumes one
+    links-of-move : (d : Decision) → d ≡ decision_of w.request around k → IsServedDecision d w.request.service → around.caller.0 ≡ w.caller → moves_task w.request.service d ≡ true → q.known.items ≡ known_links d w.request w.caller w.compared k → AreLinksOf (suspension_of w.request.service (named_task w.request w.caller) w.caller w.compared k) (length k.objects) prios (links_of d k.tasks q) l
+    links-of-move d e s who moves known =
+        let r = w.request in
+        let x = w.caller in
+        let y = named_task r x in
+        let is = moves-done r.service d moves s in
+        let links : links_of d k.tasks q ≡ moved_links r.service y w.compared (task_at k y) = ap (λ c. links_of c k.tasks q) is.1 ∙ known ∙ ap (λ b. if b then moved_links r.service y w.compared (task_at k y) else []) moves in
+        let inside : y < 64 = subst (λ n. y < n) v.sizes.tasks (subst (λ z. named_task r z < length k.tasks) who (moved-inside r around d k e moves)) in
+        let moving = subst (λ z. IsMoving r.service (task_at k (named_task r z))) who (is-moving r around d k e moves) in
+        subst (λ ks. AreLinksOf (suspension_of r.service y x w.compared k) (length k.objects) prios ks l) (sym links) (move-links k l prios v a p y inside r.service x w.compared moving)
+
+    -- what is planned
+    planned-if : (b : Bool) (d : Decision) → moves_task w.request.service d ≡ b → d ≡ decision_of w.request around k → IsServedDecision d w.request.service → around.caller.0 ≡ w.caller → q.objects.items ≡ objects_waited d w.request → q.woken.items ≡ woken_of d ws → q.bits ≡ planned_bits d w.request w.caller k → q.known.items ≡ known_links d w.request w.caller w.compared k → AreLinksOf (effect_by d w.request w.caller w.compared ws k) (length k.objects) prios (links_of d k.tasks q) l
+    planned-if true d m e s who os is bits known =
+        subst (λ f. AreLinksOf f (length k.objects) prios (links_of d k.tasks q) l) (sym (effect-moved w.request d w.caller w.compared ws k m)) (links-of-move d e s who m known)
+    planned-if false d m e s who os is bits known =
+        let none : q.known.items ≡ [] = known ∙ ap (λ b. if b then moved_links w.request.service (named_task w.request w.caller) w.compared (task_at k (named_task w.request w.caller)) else []) m in
+        subst (λ f. AreLinksOf f (length k.objects) prios (links_of d k.tasks q) l) (sym (effect-decided w.request d w.caller w.compared ws k m)) (links-decided d e s os is bits none)
+
+    pub links-planned : (d : Decision) → d ≡ decision_of w.request around k → IsServedDecision d w.request.service → around.caller.0 ≡ w.caller → q.objects.items ≡ objects_waited d w.request → q.woken.items ≡ woken_of d ws → q.bits ≡ planned_bits d w.request w.caller k → q.known.items ≡ known_links d w.request w.caller w.compared k → AreLinksOf (effect_by d w.request w.caller w.compared ws k) (length k.objects) prios (links_of d k.tasks q) l
+    links-planned d e s who os is bits known = planned-if (moves_task w.request.service d) d refl e s who os is bits known
 
 -- a caller that is to wait has no match yet
 pub caller-unmatched : (w : WorkRecord) (q : Plan) (around : Around) (k : Kernel) (s : StepsRecord) → IsLinked k → IsInHand w q around k s → q.decision ≡ Block → IsUnmatched w.caller k.matches
@@ -174,7 +196,7 @@ begun-hand w q around rs s t v nodes rest caller done may plan task made ended t
     let body = links_of q.decision k.tasks q in
     let all : AreLinksOf e (length k.objects) s.prios body s.start =
     subst (λ f. AreLinksOf f (length k.objects) s.prios body s.start) (sym plan.effect)
-    (links-decided w q around k s.start s.prios v m rest.prios may plan.around plan.caller plan.compared q.decision plan.decision plan.served plan.objects plan.woken plan.bits) in
+    (links-planned w q around k s.start s.prios v m rest.prios may plan.around plan.caller plan.compared q.decision plan.decision plan.served plan.who plan.objects plan.woken plan.bits plan.known) in
     let links : links_left k.tasks q ≡ body ++ link.Plain ∷ [] = links-fresh k.tasks q task made ended in
     let end = lists_after s.prios body s.start in
     let same : nodes_seen (length (lists_of k).pend) s.halves ≡ whole (lists_of k) =

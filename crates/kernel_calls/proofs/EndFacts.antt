@@ -1,11 +1,12 @@
 -- What the last micro-step of a whole step leaves.
-use Rattle.std.proofs.Common.{◌≡◌, ℕ, ◌+◌, List, [], length, map, sym, ap, ◌∙◌, subst, true, false, arith}
+use Rattle.std.proofs.Common.{◌≡◌, ℕ, ◌+◌, List, [], length, map, refl, sym, ap, ◌∙◌, subst, Bool, true, false, arith}
 use Rattle.kern_base.specs.declared.outcomes.Around.{Around}
 use Rattle.kern_base.specs.Tables.{KindTable}
 use Rattle.kern_base.specs.declared.requests.Request.{Request}
 use Rattle.kern_base.specs.declared.outcomes.Decision.{Decision}
 use Rattle.kern_base.specs.declared.kinds.Kind.{Kind}
-use Rattle.kern_model.specs.State.{Kernel, Object, kind_of}
+use Rattle.kern_model.specs.State.{Kernel, Object, kind_of, task_at}
+use Rattle.kern_model.specs.Checks.{named_task}
 use Rattle.kern_model.specs.Micro.{Halves, Lists, is_filled, lists_of, whole}
 use Rattle.kern_model.specs.Call.{call_of}
 use Rattle.kern_model.specs.Effect.{Effect}
@@ -21,13 +22,16 @@ use Rattle.link_plans.specs.Plans.{links_left}
 use Rattle.link_plans.specs.declared.plan.Plan.{Plan}
 use Rattle.kernel_records.specs.RecordsRecord.{RecordsRecord, with_lists, without_lists}
 use Rattle.kernel_records.specs.Deciding.{own_change, waiters_of}
-use Rattle.kernel_records.specs.Concluding.{concluded, outcome_of, woken_of}
+use Rattle.kernel_records.specs.Suspension.{moves_task}
+use Rattle.kernel_records.specs.Concluding.{outcome_after, outcome_of, records_after, woken_of}
 use Rattle.kernel_records.specs.Served.{IsServed}
-use Rattle.kernel_records.proofs.ConcludingFacts.{concluded-bare, has-outcome, is-concluded, outcome-bare, own-bare}
+use Rattle.kernel_records.proofs.ConcludingFacts.{after-bare, after-decided, after-moved, has-outcome, is-concluded, outcome-bare, outcome-decided, outcome-moved, own-bare}
+use Rattle.kernel_records.proofs.DecidingFacts.{effect-decided, effect-moved}
+use Rattle.kernel_records.proofs.SuspensionFacts.{IsMoving, is-moved, is-moving}
 use Rattle.kernel_calls.specs.Works.{WorkRecord, effect_of}
 use Rattle.kernel_calls.specs.Stepping.{AreNodes, HasPrios, IsInHand, IsResting, prios_over}
 use Rattle.kernel_calls.specs.KernelView.{IsSound, state_with}
-use Rattle.kernel_calls.proofs.ServedFacts.{served-decided}
+use Rattle.kernel_calls.proofs.ServedFacts.{served-effect}
 use Rattle.kernel_calls.proofs.StepFacts.{cost-below, may-call, none-left}
 use Rattle.kernel_calls.proofs.WaiterFacts.{AllWait-waiters}
 
@@ -76,7 +80,7 @@ module _ (w : WorkRecord) (q : Plan) (around : Around) (rs : Kernel) (start : Li
     pub served-made : IsServed made.kernel
     served-made =
         subst (λ (e : Effect). IsServed e.kernel) (sym h.planned.effect)
-        (served-decided q.decision w.request w.caller w.compared (waiters_of w.request w.caller before) before h.planned.served (AllWait-waiters w.request w.caller before v) sv)
+        (served-effect q.decision w.request around w.caller w.compared (waiters_of w.request w.caller before) before h.planned.decision h.planned.who h.planned.served (AllWait-waiters w.request w.caller before v) sv)
 
     lists-made : seen (length before.pend) s.halves ≡ whole (lists_of made.kernel)
     lists-made =
@@ -98,45 +102,63 @@ module _ (w : WorkRecord) (q : Plan) (around : Around) (rs : Kernel) (start : Li
     pub prios-made : s.prios ≡ s0.prios → HasPrios made.kernel s.prios
     prios-made e = subst (HasPrios made.kernel) (sym e) (subst (λ ks. HasPrios made.kernel (prios_over ks s0.prios)) none h.prios)
 
-    pub records-made : concluded q.decision w.request w.caller (woken_of q.decision (waiters_of w.request w.caller before)) (without_lists rs) ≡ without_lists made.kernel
-    records-made =
-        sym (is-concluded q.decision w.request w.caller w.compared (waiters_of w.request w.caller before) before h.planned.served)
-        ∙ ap (λ (e : Effect). without_lists e.kernel) (sym h.planned.effect)
+    abbrev xs : List ℕ
+    xs = waiters_of w.request w.caller before
+
+    -- a task was suspended or resumed, or what was decided is made
+    records-if : (b : Bool) → moves_task w.request.service q.decision ≡ b → records_after q.decision w.request w.caller (woken_of q.decision xs) (without_lists rs) ≡ without_lists made.kernel
+    records-if true m =
+        let moved = is-moved w.request.service (named_task w.request w.caller) w.caller w.compared before (subst (λ z. IsMoving w.request.service (task_at before (named_task w.request z))) h.planned.who (is-moving w.request around q.decision before h.planned.decision m)) in
+        after-moved q.decision w.request w.caller (woken_of q.decision xs) (without_lists rs) m
+        ∙ sym moved.kernel
+        ∙ ap (λ (e : Effect). without_lists e.kernel) (sym (effect-moved w.request q.decision w.caller w.compared xs before m) ∙ sym h.planned.effect)
+    records-if false m =
+        after-decided q.decision w.request w.caller (woken_of q.decision xs) (without_lists rs) m
+        ∙ sym (is-concluded q.decision w.request w.caller w.compared xs before h.planned.served)
+        ∙ ap (λ (e : Effect). without_lists e.kernel) (sym (effect-decided w.request q.decision w.caller w.compared xs before m) ∙ sym h.planned.effect)
 
     -- what the records and the chains then are
-    pub state-made : (rs' : Kernel) → rs' ≡ concluded q.decision w.request w.caller (woken_of q.decision (waiters_of w.request w.caller before)) rs → state_with rs' s.halves.forward ≡ made.kernel
+    pub state-made : (rs' : Kernel) → rs' ≡ records_after q.decision w.request w.caller (woken_of q.decision xs) rs → state_with rs' s.halves.forward ≡ made.kernel
     state-made rs' e =
         made-of rs' made.kernel s.halves.forward
-        (ap without_lists e ∙ concluded-bare q.decision w.request w.caller (woken_of q.decision (waiters_of w.request w.caller before)) rs ∙ records-made)
+        (ap without_lists e ∙ after-bare q.decision w.request w.caller (woken_of q.decision xs) rs ∙ records-if (moves_task w.request.service q.decision) refl)
         (ap (λ n. seen_lists n s.halves.forward) (sym objects-made) ∙ forward-made)
 
     own-made : without_lists (own_change w.request w.caller q.decision rs) ≡ without_lists (own_change w.request w.caller q.decision before)
     own-made = own-bare w.request w.caller q.decision rs ∙ sym (own-bare w.request w.caller q.decision before)
 
-    pub outcome-made : outcome_of q.decision w.request (woken_of q.decision (waiters_of w.request w.caller before)) (own_change w.request w.caller q.decision rs) ≡ made.outcome
-    outcome-made =
-        let xs = woken_of q.decision (waiters_of w.request w.caller before) in
-        outcome-bare q.decision w.request xs (own_change w.request w.caller q.decision rs)
-        ∙ ap (outcome_of q.decision w.request xs) own-made
-        ∙ sym (outcome-bare q.decision w.request xs (own_change w.request w.caller q.decision before))
-        ∙ sym (has-outcome q.decision w.request w.caller w.compared (waiters_of w.request w.caller before) before h.planned.served)
-        ∙ ap (λ (e : Effect). e.outcome) (sym h.planned.effect)
+    outcome-if : (b : Bool) → moves_task w.request.service q.decision ≡ b → outcome_after q.decision w.request w.caller (woken_of q.decision xs) rs ≡ made.outcome
+    outcome-if true m =
+        let moved = is-moved w.request.service (named_task w.request w.caller) w.caller w.compared before (subst (λ z. IsMoving w.request.service (task_at before (named_task w.request z))) h.planned.who (is-moving w.request around q.decision before h.planned.decision m)) in
+        outcome-moved q.decision w.request w.caller (woken_of q.decision xs) rs m
+        ∙ sym moved.outcome
+        ∙ ap (λ (e : Effect). e.outcome) (sym (effect-moved w.request q.decision w.caller w.compared xs before m) ∙ sym h.planned.effect)
+    outcome-if false m =
+        let ys = woken_of q.decision xs in
+        outcome-decided q.decision w.request w.caller ys rs m
+        ∙ outcome-bare q.decision w.request ys (own_change w.request w.caller q.decision rs)
+        ∙ ap (outcome_of q.decision w.request ys) own-made
+        ∙ sym (outcome-bare q.decision w.request ys (own_change w.request w.caller q.decision before))
+        ∙ sym (has-outcome q.decision w.request w.caller w.compared xs before h.planned.served)
+        ∙ ap (λ (e : Effect). e.outcome) (sym (effect-decided w.request q.decision w.caller w.compared xs before m) ∙ sym h.planned.effect)
+
+    pub outcome-made : outcome_after q.decision w.request w.caller (woken_of q.decision xs) rs ≡ made.outcome
+    outcome-made = outcome-if (moves_task w.request.service q.decision) refl
 
 -- the same decision is concluded
-pub same-concluded : (d e : Decision) (r u : Request) (x y : ℕ) (xs ys : List ℕ) (k : Kernel) → d ≡ e → r ≡ u → x ≡ y → xs ≡ ys → concluded d r x xs k ≡ concluded e u y ys k
-same-concluded d e r u x y xs ys k a b c f =
-    ap (λ i. concluded i r x xs k) a ∙ ap (λ i. concluded e i x xs k) b ∙ ap (λ i. concluded e u i xs k) c ∙ ap (λ i. concluded e u y i k) f
+pub same-records : (d e : Decision) (r u : Request) (x y : ℕ) (xs ys : List ℕ) (k : Kernel) → d ≡ e → r ≡ u → x ≡ y → xs ≡ ys → records_after d r x xs k ≡ records_after e u y ys k
+same-records d e r u x y xs ys k a b c f =
+    ap (λ i. records_after i r x xs k) a ∙ ap (λ i. records_after e i x xs k) b ∙ ap (λ i. records_after e u i xs k) c ∙ ap (λ i. records_after e u y i k) f
 
-pub same-outcome : (d e : Decision) (r u : Request) (x y : ℕ) (xs ys : List ℕ) (k : Kernel) → d ≡ e → r ≡ u → x ≡ y → xs ≡ ys → outcome_of d r xs (own_change r x d k) ≡ outcome_of e u ys (own_change u y e k)
+pub same-outcome : (d e : Decision) (r u : Request) (x y : ℕ) (xs ys : List ℕ) (k : Kernel) → d ≡ e → r ≡ u → x ≡ y → xs ≡ ys → outcome_after d r x xs k ≡ outcome_after e u y ys k
 same-outcome d e r u x y xs ys k a b c f =
-    ap (λ i. outcome_of i r xs (own_change r x i k)) a ∙ ap (λ i. outcome_of e i xs (own_change i x e k)) b
-    ∙ ap (λ i. outcome_of e u xs (own_change u i e k)) c ∙ ap (λ (zs : List ℕ). outcome_of e u zs (own_change u y e k)) f
+    ap (λ i. outcome_after i r x xs k) a ∙ ap (λ i. outcome_after e i x xs k) b ∙ ap (λ i. outcome_after e u i xs k) c ∙ ap (λ i. outcome_after e u y i k) f
 
 -- what is sound at the last micro-step stays so once what was decided is made
 pub sound-end : (w v : WorkRecord) (q p : Plan) (around : Around) (r n : RecordsRecord) (s0 s t : StepsRecord) (i : IsSound r s0 q around w true)
     → links_left (state_with r.state s0.start).tasks q ≡ [] → IsPaused (blocks (effect_of w (state_with r.state s0.start)) (state_with r.state s0.start)) (lists_of (state_with r.state s0.start)) (w.done + 1) [] i.hand.end s
     → s.prios ≡ s0.prios → t.halves ≡ s.halves → t.prios ≡ s.prios → t.start ≡ s.halves.forward
-    → n.state ≡ concluded q.decision w.request w.caller (woken_of q.decision (waiters_of w.request w.caller (state_with r.state s0.start))) r.state → IsSound n t p around v false
+    → n.state ≡ records_after q.decision w.request w.caller (woken_of q.decision (waiters_of w.request w.caller (state_with r.state s0.start))) r.state → IsSound n t p around v false
 sound-end w v q p around r n s0 s t i none paused prios halves kept start records =
     let made = (effect_of w (state_with r.state s0.start)).kernel in
     let is : state_with n.state t.start ≡ made = ap (λ l. state_with n.state l) start ∙ state-made w q around r.state s0.start s0 s i.valid i.served i.hand none paused n.state records in

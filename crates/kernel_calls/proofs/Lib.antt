@@ -12,6 +12,7 @@ pub mod LinkFacts
 pub mod WakeCase
 pub mod FlagCase
 pub mod BlockCase
+pub mod MoveCase
 pub mod BeginFacts
 pub mod PlanningFacts
 pub mod PostFacts

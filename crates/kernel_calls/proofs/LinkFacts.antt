@@ -7,19 +7,28 @@ use Rattle.kern_base.specs.declared.outcomes.Decision.TheVariants.{Done, Block, 
 use Rattle.kern_base.specs.declared.outcomes.Who.TheVariants.{First, All as Every, Matching}
 use Rattle.kern_model.specs.State.{Task}
 use Rattle.kern_model.specs.Micro.{Lists, after, plain}
+use Rattle.kern_model.specs.Effect.{Effect}
 use Rattle.micro_steps.specs.declared.link.Link.{Link}
 use Rattle.micro_steps.specs.declared.link.Link.TheVariants as link
 use Rattle.micro_steps.specs.Blocks.{block_of}
 use Rattle.micro_steps.specs.Whole.{AreFit, lists_after, prios_after, task_block, task_blocks}
+use Rattle.link_plans.specs.Fits.{IsNoded}
 use Rattle.link_plans.specs.Plans.{block_links, decision_left, links_left, matching_left, matching_links, wakes_left, wakes_links}
 use Rattle.link_plans.specs.Renewals.{prios_past}
 use Rattle.link_plans.specs.declared.plan.Plan.{Plan}
 use Rattle.link_plans.proofs.Lemmas.{matching_begun, wakes_begun}
-use Rattle.kernel_calls.specs.Stepping.{prios_over}
+use Rattle.kernel_calls.specs.Stepping.{HasPrios, prios_over}
+
+-- The links of an effect on these lists of nodes: they fit, they are its blocks, and their nodes and priorities are those after it.
+pub record AreLinksOf (e : Effect) (n : ℕ) (prios : List Prio) (ks : List Link) (l : Lists) : Type 0 where
+  pub fits : AreFit n prios ks l
+  pub blocks : task_blocks prios ks ≡ e.blocks
+  pub noded : IsNoded e.kernel.tasks (lists_after prios ks l).pend
+  pub listed : HasPrios e.kernel (prios_over ks prios)
 
 -- the links before the end of the step
 abbrev pub links_of : Decision → List Task → Plan → List Link
-links_of (Done a) ts q = []
+links_of (Done a) ts q = q.known.items
 links_of Block ts q = block_links ts q.caller.0 q.objects.items
 links_of (Wake Matching) ts q = matching_links ts q.bits q.compared.0 q.woken.items
 links_of (Wake who) ts q = wakes_links ts q.compared.0 q.woken.items
@@ -32,7 +41,7 @@ wakes-start ts q t m =
     ∙ wakes_begun ts q.compared.0 q.woken.items
 
 left-fresh : (d : Decision) (ts : List Task) (q : Plan) → q.task ≡ 0 → q.made ≡ 0 → decision_left d ts q ≡ links_of d ts q
-left-fresh (Done a) ts q t m = refl
+left-fresh (Done a) ts q t m = ap (λ i. drop i q.known.items) m
 left-fresh Block ts q t m = ap (λ i. drop i (block_links ts q.caller.0 q.objects.items)) m
 left-fresh (Wake First) ts q t m = wakes-start ts q t m
 left-fresh (Wake Every) ts q t m = wakes-start ts q t m

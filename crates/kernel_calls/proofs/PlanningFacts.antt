@@ -44,16 +44,6 @@ all-waiters n lists o p =
       | inr d ↦ list_at-take n (tasks_in lists) o d.1
     ]
 
--- the lock is on
-not-zero : (n : ℕ) → 1 ≤ n → (n == 0) ≡ false
-not-zero n h = elim (eqb_tells n 0) [ inl e ↦ absurd (let z = e.1 in omega arith) | inr e ↦ e.0 ]
-
-is-zero : (n : ℕ) → n < 1 → (n == 0) ≡ true
-is-zero n h = elim (eqb_tells n 0) [ inl e ↦ e.0 | inr e ↦ absurd (e.1 (omega arith)) ]
-
-pub is-locked : (n : ℕ) → nat_lt 0 n ≡ not (n == 0)
-is-locked n = elim (leb_tells 1 n) [ inl a ↦ a.0 ∙ sym (ap not (not-zero n a.1)) | inr b ↦ b.0 ∙ sym (ap not (is-zero n b.1)) ]
-
 -- waiters are numbers of tasks
 waiters-below : (k : Kernel) (xs : List ℕ) → AllWait k xs → AllOf (λ x. x < 64) xs
 waiters-below k [] w = All-nil (λ x. x < 64)

@@ -3,7 +3,7 @@ use Rattle.std.specs.Prelude.{if◌then◌else◌, ◌==◌, ◌-◌, ◌+◌, �
 use Rattle.std.proofs.Common.{◌≡◌, ℕ, List, [], ◌∷◌, refl, Bool, true, false, Option, Some, None}
 use Rattle.std.proofs.lemmas.Bool.{false≢true}
 use Rattle.kern_base.specs.declared.services.Service.{Service}
-use Rattle.kern_base.specs.declared.services.Service.TheVariants.{SemPost, QPost, FlagPost, TaskSemPost, TaskQPost, SemPend, QPend, FlagPend, TaskSemPend, TaskQPend, SchedLock, SchedUnlock, TimeGet, TimeDly, TimeDlyResume, SemPendAbort, QPendAbort, FlagPendAbort, TaskSemPendAbort, TaskQPendAbort, SemDel, QDel, FlagDel}
+use Rattle.kern_base.specs.declared.services.Service.TheVariants.{SemPost, QPost, FlagPost, TaskSemPost, TaskQPost, SemPend, QPend, FlagPend, TaskSemPend, TaskQPend, SchedLock, SchedUnlock, TimeGet, TimeDly, TimeDlyResume, SemPendAbort, QPendAbort, FlagPendAbort, TaskSemPendAbort, TaskQPendAbort, SemDel, QDel, FlagDel, TaskSuspend, TaskResume}
 use Rattle.kern_base.specs.declared.requests.Request.{Request}
 use Rattle.kern_base.specs.declared.errors.OsErr.{OsErr}
 use Rattle.kern_base.specs.declared.errors.OsErr.TheVariants.{SemOverflow, CallUnknown}
@@ -100,6 +100,8 @@ plain-perform TaskQPendAbort call k e p = absurd (false≢true p)
 plain-perform SemDel call k e p = absurd (false≢true p)
 plain-perform QDel call k e p = absurd (false≢true p)
 plain-perform FlagDel call k e p = absurd (false≢true p)
+plain-perform TaskSuspend call k e p = absurd (false≢true p)
+plain-perform TaskResume call k e p = absurd (false≢true p)
 plain-perform _ call k e p = absurd (false≢true e)
 
 plain-checked : (o : Option OsErr) (call : Call) (k : Kernel) → program_serves call.request.service ≡ true → is_post call.request.service ≡ true → Plain (after_checks o call k)

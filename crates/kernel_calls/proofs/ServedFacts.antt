@@ -1,10 +1,12 @@
 -- What keeps it true that no task waits for several objects, and that no result has a table.
-use Rattle.std.proofs.Common.{◌≡◌, ℕ, inl, inr, ◌<◌, List, [], ◌∷◌, get_or, Option, Some, None, refl, sym, ap, ◌∙◌, subst, true, false}
+use Rattle.std.proofs.Common.{◌≡◌, ℕ, suc, Bool, inl, inr, ◌<◌, List, [], ◌∷◌, get_or, Option, Some, None, refl, sym, ap, ◌∙◌, subst, true, false}
+use Rattle.std.specs.Prelude.{◌==◌}
 use Rattle.std.proofs.lemmas.Bool.Decides.{leb_tells}
 use Rattle.kern_base.specs.declared.services.Service.{Service}
-use Rattle.kern_base.specs.declared.services.Service.TheVariants.{FlagPend, TaskSemPend, TaskQPend, TimeDly}
+use Rattle.kern_base.specs.declared.services.Service.TheVariants.{FlagPend, TaskSemPend, TaskQPend, TimeDly, TaskSuspend, TaskResume}
 use Rattle.kern_base.specs.declared.requests.Request.{Request}
 use Rattle.kern_base.specs.declared.outcomes.Answer.{Answer}
+use Rattle.kern_base.specs.declared.outcomes.Around.{Around}
 use Rattle.kern_base.specs.declared.outcomes.Decision.{Decision}
 use Rattle.kern_base.specs.declared.outcomes.Decision.TheVariants.{Done, Block, Wake}
 use Rattle.kern_base.specs.declared.outcomes.Finished.{Finished}
@@ -13,17 +15,22 @@ use Rattle.kern_base.specs.declared.outcomes.Waiting.{Waiting}
 use Rattle.kern_base.specs.declared.outcomes.Waiting.TheVariants.{No, Delay, Obj, TaskSem, TaskQ, Multi, Signal}
 use Rattle.kern_model.specs.State.{Kernel, Task, no_task, task_at, count_of, update_task}
 use Rattle.kern_model.specs.Effect.{Effect, answered_task, blocked, chosen, fine, result_of, waited, waiting_task, wakes, wakes_all}
+use Rattle.kern_model.specs.Checks.{named_task}
 use Rattle.kern_model.specs.FlagBits.{ready_bits}
 use Rattle.kern_model.specs.Flags.{flag_wakes, flag_wakes_all}
 use Rattle.kern_model.specs.Services.{content_for}
+use Rattle.kern_model.specs.Tasks.{resumes, suspended_task, suspends}
 use Rattle.kern_model.specs.Valid.{AllWait, IsLinked}
 use Rattle.kern_model.proofs.Lemmas.{AllWait-chosen, AllWait-wakes, update_task_at}
 use Rattle.decisions.specs.Decided.{bits_in, decided, ending_of, handed, wait_of}
-use Rattle.kernel_records.specs.Deciding.{IsServedDecision, own_change}
+use Rattle.kernel_records.specs.Suspension.{moves_task, suspension_of}
+use Rattle.kernel_records.specs.Deciding.{IsServedDecision, decision_of, effect_by, own_change}
 use Rattle.kernel_records.specs.Concluding.{handing}
 use Rattle.kernel_records.specs.Served.{HasNoTable, IsServed, IsSingle}
 use Rattle.kernel_records.proofs.ConcludingFacts.{all-posts, handing-single, plain-flags, plain-wait}
 use Rattle.kernel_records.proofs.RowFacts.{beside, own-block}
+use Rattle.kernel_records.proofs.DecidingFacts.{effect-decided, effect-moved}
+use Rattle.kernel_records.proofs.SuspensionFacts.{IsMoving, is-moving}
 use Rattle.kernel_calls.proofs.OwnChanges.{flag_wakes-beside, free_posted, is-waking, objects_posted, own-flags, own-keeps, waking}
 use Rattle.kernel_calls.proofs.WaiterFacts.{IsIdleWait, internal-wait}
 
@@ -91,6 +98,11 @@ single-wait TaskQPend r ticks = tt
 single-wait TimeDly r ticks = tt
 single-wait _ r ticks = tt
 
+-- the answer that waits for a task that suspends itself has no table
+bare-suspended : (own : Bool) (t : Task) → HasNoTable t.answered → HasNoTable (suspended_task own t).answered
+bare-suspended true t h = refl
+bare-suspended false t h = h
+
 -- it is known of the tasks alone
 served-tasks : (k j : Kernel) → j.tasks ≡ k.tasks → IsServed k → IsServed j
 served-tasks k j e s =
@@ -100,7 +112,7 @@ served-tasks k j e s =
     }
 
 -- what was decided
-pub served-decided : (d : Decision) (r : Request) (x h : ℕ) (xs : List ℕ) (k : Kernel) → IsServedDecision d r.service → AllWait k xs → IsServed k → IsServed (decided d r.service r x h xs (own_change r x d k)).kernel
+served-decided : (d : Decision) (r : Request) (x h : ℕ) (xs : List ℕ) (k : Kernel) → IsServedDecision d r.service → AllWait k xs → IsServed k → IsServed (decided d r.service r x h xs (own_change r x d k)).kernel
 served-decided (Done a) r x h xs k d w s = served-own r x (Done a) k s
 served-decided Block r x h xs k d w s =
     subst (λ (j : Kernel). IsServed (decided Block r.service r x h xs j).kernel) (sym (own-block r x k d))
@@ -121,6 +133,25 @@ served-decided (Wake Matching) r x h xs k d w s =
     subst (λ (i : Kernel). IsServed (decided (Wake Matching) r.service r x h xs i).kernel) (sym (own-flags r x k d))
     (subst (λ (e : Effect). IsServed e.kernel) (sym (plain-flags r.service _ _ d))
     (subst IsServed (sym (flag_wakes-beside bits h xs k os free)) all))
+
+-- a task that is suspended or resumed
+served-move : (s : Service) (y x h : ℕ) (k : Kernel) → IsMoving s (task_at k y) → IsServed k → IsServed (suspension_of s y x h k).kernel
+served-move TaskSuspend y x h k i s = served-task k (suspends (y == x) y k).kernel y (suspended_task (y == x)) refl (λ l. s.waits y l) (bare-suspended (y == x) (task_at k y) (s.reads y)) s
+served-move TaskResume y x h k i s =
+    subst (λ n. IsServed (resumes n y h k).kernel) (sym i.1)
+    (served-task k (resumes (suc i.0) y h k).kernel y (λ t. record t { suspended = i.0 }) refl (λ l. s.waits y l) (s.reads y) s)
+served-move _ y x h k i s = absurd i
+
+served-if : (b : Bool) (d : Decision) (r : Request) (seen : Around) (x h : ℕ) (xs : List ℕ) (k : Kernel) → moves_task r.service d ≡ b → d ≡ decision_of r seen k → seen.caller.0 ≡ x → IsServedDecision d r.service → AllWait k xs → IsServed k → IsServed (effect_by d r x h xs k).kernel
+served-if true d r seen x h xs k m e who served w s =
+    subst (λ (f : Effect). IsServed f.kernel) (sym (effect-moved r d x h xs k m))
+    (served-move r.service (named_task r x) x h k (subst (λ z. IsMoving r.service (task_at k (named_task r z))) who (is-moving r seen d k e m)) s)
+served-if false d r seen x h xs k m e who served w s =
+    subst (λ (f : Effect). IsServed f.kernel) (sym (effect-decided r d x h xs k m)) (served-decided d r x h xs k served w s)
+
+-- what was planned
+pub served-effect : (d : Decision) (r : Request) (seen : Around) (x h : ℕ) (xs : List ℕ) (k : Kernel) → d ≡ decision_of r seen k → seen.caller.0 ≡ x → IsServedDecision d r.service → AllWait k xs → IsServed k → IsServed (effect_by d r x h xs k).kernel
+served-effect d r seen x h xs k e who served w s = served-if (moves_task r.service d) d r seen x h xs k refl e who served w s
 
 -- No task waits for several objects.
 single-idle : (w : Waiting) → IsIdleWait w → IsSingle w

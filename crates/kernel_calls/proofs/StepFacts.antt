@@ -80,6 +80,7 @@ pub record IsSamePlan (q p : Plan) : Type 0 where
   pub compared : p.compared ≡ q.compared
   pub objects : p.objects ≡ q.objects
   pub woken : p.woken ≡ q.woken
+  pub known : p.known ≡ q.known
   pub bits : p.bits ≡ q.bits
 
 pub planned-next : (w : WorkRecord) (q p : Plan) (seen : Around) (k : Kernel) → IsSamePlan q p → IsPlanned w q seen k → IsPlanned (stepped w) p seen k
@@ -95,6 +96,7 @@ planned-next w q p seen k e h =
       woken = rw (e.woken, e.decision) h.woken;
       bits = rw (e.bits, e.decision) h.bits;
       objects = rw (e.objects, e.decision) h.objects;
+      known = rw (e.known, e.decision) h.known;
       woken_below = rw e.woken h.woken_below;
       objects_below = rw e.objects h.objects_below;
     }

@@ -34,12 +34,12 @@ rests true w q seen k s free rest = cc
 rests false w q seen k s free rest = rest
 
 -- its nodes stay those of its objects
-noded-task : (f : Task → Task) → ((t : Task) → (f t).objects ≡ t.objects) → (ts : List Task) (x : ℕ) (pend : List (List ℕ)) → IsNoded ts pend → IsNoded (update_task ts x f) pend
+pub noded-task : (f : Task → Task) → ((t : Task) → (f t).objects ≡ t.objects) → (ts : List Task) (x : ℕ) (pend : List (List ℕ)) → IsNoded ts pend → IsNoded (update_task ts x f) pend
 noded-task f same ts x pend noded o n h =
     noded o n h ∙ ap (λ os. 8 * (n / 8) + place_of o os) (sym (update_task_same (λ t. t.objects) f same ts x (n / 8)))
 
 -- and the priorities of all tasks
-prios-task : (f : Task → Task) → ((t : Task) → (f t).prio ≡ t.prio) → (k j : Kernel) (x : ℕ) (prios : List Prio) → j.tasks ≡ update_task k.tasks x f → HasPrios k prios → HasPrios j prios
+pub prios-task : (f : Task → Task) → ((t : Task) → (f t).prio ≡ t.prio) → (k j : Kernel) (x : ℕ) (prios : List Prio) → j.tasks ≡ update_task k.tasks x f → HasPrios k prios → HasPrios j prios
 prios-task f same k j x prios e has y =
     has y ∙ sym (ap (λ ts. (get_or ts y no_task).prio) e ∙ update_task_same (λ t. t.prio) f same k.tasks x y)
 

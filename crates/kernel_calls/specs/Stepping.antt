@@ -17,9 +17,9 @@ use Rattle.link_plans.specs.Fits.{IsNoded}
 use Rattle.link_plans.specs.Plans.{links_left}
 use Rattle.link_plans.specs.declared.plan.Plan.{Plan}
 use Rattle.decisions.specs.Around.{IsAround}
-use Rattle.decisions.specs.Decided.{decided}
-use Rattle.kernel_records.specs.Deciding.{IsServedDecision, decision_of, own_change, waiters_of}
+use Rattle.kernel_records.specs.Deciding.{IsServedDecision, decision_of, effect_by, waiters_of}
 use Rattle.kernel_records.specs.Concluding.{bits_left, objects_waited, woken_of}
+use Rattle.kernel_calls.specs.Moving.{known_links}
 use Rattle.kernel_calls.specs.Works.{MayBegin, WorkRecord, effect_of}
 
 -- the present priorities of all tasks are these
@@ -46,18 +46,19 @@ planned_bits (Wake who.Matching) r x k = bits_left r x (Wake who.Matching) k
 planned_bits d r x k = 0
 
 -- What is planned of a work: what was decided of its request, with this around what it is about, which is what its service does; the
--- tasks to be woken or looked at, and the objects to be waited for.
+-- tasks to be woken or looked at, the objects to be waited for, and the links that are known.
 pub record IsPlanned (w : WorkRecord) (q : Plan) (seen : Around) (k : Kernel) : Type 0 where
   pub around : IsAround seen (waiters_of w.request w.caller k) k
   pub who : seen.caller.0 ≡ w.caller
   pub decision : q.decision ≡ decision_of w.request seen k
-  pub effect : effect_of w k ≡ decided q.decision w.request.service w.request w.caller w.compared (waiters_of w.request w.caller k) (own_change w.request w.caller q.decision k)
+  pub effect : effect_of w k ≡ effect_by q.decision w.request w.caller w.compared (waiters_of w.request w.caller k) k
   pub served : IsServedDecision q.decision w.request.service
   pub caller : q.caller.0 ≡ w.caller
   pub compared : q.compared.0 ≡ w.compared
   pub woken : q.woken.items ≡ woken_of q.decision (waiters_of w.request w.caller k)
   pub bits : q.bits ≡ planned_bits q.decision w.request w.caller k
   pub objects : q.objects.items ≡ objects_waited q.decision w.request
+  pub known : q.known.items ≡ known_links q.decision w.request w.caller w.compared k
   pub woken_below : All (λ x. x < 64) q.woken.items
   pub objects_below : All (λ o. o < 64) q.objects.items
 

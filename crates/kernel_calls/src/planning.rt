@@ -1,7 +1,8 @@
 // What is planned of a call when it begins.
 
-ghost use Rattle.std.specs.Prelude.{◌≡◌, ◌<◌, ℕ, List, [], All, true, false, slice_index};
+ghost use Rattle.std.specs.Prelude.{◌≡◌, ◌<◌, ◌∷◌, ℕ, List, [], All, MatchOption, true, false, slice_index};
 ghost use Rattle.kern_model.specs.State.{list_at};
+ghost use Rattle.kern_model.specs.Checks.{named_task};
 ghost use Rattle.micro_steps.specs.Halfway.{tasks_in};
 ghost use Rattle.decisions.specs.Around.{first_waiter};
 ghost use Rattle.decisions.specs.Decided.{wait_objects};
@@ -10,14 +11,20 @@ ghost use Rattle.kernel_records.specs.Concluding.{objects_waited, woken_of};
 ghost use Rattle.kernel_records.specs.Deciding.{IsServedDecision};
 ghost use Rattle.kernel_records.specs.SchedulerCalls.{is_scheduler_call};
 ghost use Rattle.kernel_records.specs.Served.{is_served_wait};
+ghost use Rattle.kernel_records.specs.Suspension.{moves_task};
+ghost use Rattle.kernel_calls.specs.Moving.{known_links, moved_links};
+ghost use Rattle.tcb_pool.specs.TaskView.{task_of};
 ghost use Rattle.kernel_calls.specs.Stepping.{planned_bits};
 
 use arrayvec::ArrayVec;
-use kern_base::{Around, Decision, ObjId, Prio, Request, TaskId, Who};
-use kernel_records::{Records, is_scheduler_call, is_task_call};
+use call_checks::named_task;
+use kern_base::{Around, Decision, ObjId, Prio, Request, Service, TaskId, Waiting, Who};
+use kernel_records::{Records, is_scheduler_call, is_task_call, moves_task};
 use link_plans::Plan;
 use links::Links;
+use micro_steps::Link;
 use pend_lists::PendLists;
+use tcb_pool::{Tcb, is_ready};
 
 // There is room for the lists of so many objects.
 const OBJECTS: u32 = 64;
@@ -30,6 +37,7 @@ pub(crate) fn no_plan() -> Plan {
         compared: Prio(0),
         objects: ArrayVec::new(),
         woken: ArrayVec::new(),
+        known: ArrayVec::new(),
         bits: 0,
         task: 0,
         made: 0,
@@ -77,6 +85,7 @@ pub(crate) fn plan_call<L: Links>(
         → (is_scheduler_call request.now.service ≡ false → is_task_call request.now.service ≡ false → xs ≡ list_at (tasks_in pend.now.forward) (slice_index request.now.args 0))
         → plan.new.woken.items ≡ woken_of decision xs }
     ensures objects { plan.new.objects.items ≡ objects_waited decision request.now }
+    ensures known { plan.new.known.items ≡ [] }
     ensures fresh { (plan.new.bits ≡ 0) × (plan.new.task ≡ 0) × (plan.new.made ≡ 0) × (plan.new.ended ≡ false) }
 {
     plan.decision = decision;
@@ -88,6 +97,7 @@ pub(crate) fn plan_call<L: Links>(
     plan.ended = false;
     plan.objects.clear();
     plan.woken.clear();
+    plan.known.clear();
     match decision {
         Decision::Done(_) => {}
         Decision::Block => plan_wait(&mut plan.objects, request),
@@ -126,4 +136,39 @@ fn all_waiters<L: Links>(woken: &mut ArrayVec<u8, 64>, pend: &PendLists<L>, numb
         return;
     }
     pend.forward(ObjId(number as u8), woken);
+}
+
+// Plans the link of a call that suspends a task or resumes one. Of any other call none is known.
+pub(crate) fn plan_move(
+    known: &mut ArrayVec<Link, 4>,
+    records: &Records,
+    request: &Request,
+    caller: TaskId,
+    compared: Prio,
+    decision: &Decision,
+)
+    requires empty { known.old.items ≡ [] }
+    requires inside { moves_task request.now.service decision.now ≡ true → named_task request.now caller.0 < 64 }
+    ensures { known.new.items ≡ known_links decision.now request.now caller.0 compared.0 records.now.state }
+{
+    if !moves_task(request.service, decision) {
+        return;
+    }
+    let task = TaskId(named_task(request.args[0], caller) as u8);
+    if let Some(link) = move_link(records.tcb(task), request.service, task, compared) {
+        known.push(link);
+    }
+}
+
+// The link of a task that is suspended or resumed, where it leaves or joins a ready list.
+fn move_link(tcb: &Tcb, service: Service, task: TaskId, compared: Prio) -> Option<Link>
+    ensures { MatchOption result (moved_links service task.0 compared.0 (task_of tcb.now) ≡ []) (λ link. moved_links service task.0 compared.0 (task_of tcb.now) ≡ link ∷ []) }
+{
+    match service {
+        Service::TaskSuspend => is_ready(tcb).then_some(Link::Unready(task, tcb.prio)),
+        Service::TaskResume if matches!(tcb.wait, Waiting::No) && tcb.suspended <= 1 => {
+            Some(Link::Ready(task, tcb.prio, tcb.prio == compared))
+        }
+        _ => None,
+    }
 }

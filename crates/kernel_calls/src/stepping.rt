@@ -11,7 +11,7 @@ ghost use Rattle.kernel_calls.specs.KernelRecord.{ended, with_state, IsOpen};
 ghost use Rattle.kernel_calls.specs.Works.{IsPlainAnswer, MayBegin, begun, effect_of, stepped, WorkRecord};
 
 use crate::kernels::Kernel;
-use crate::planning::{first_waiter, plan_call, planned_bits};
+use crate::planning::{first_waiter, plan_call, plan_move, planned_bits};
 use crate::work::HANDLER;
 use kern_base::{Answer, Around, Outcome, Post, Prio, Request, TaskId};
 use kernel_records::{is_scheduler_call, is_task_call};
@@ -76,6 +76,14 @@ impl<L: Links> Kernel<L> {
             decision,
         );
         self.plan.bits = bits;
+        plan_move(
+            &mut self.plan.known,
+            &self.records,
+            request,
+            caller,
+            compared,
+            &decision,
+        );
         self.work.begin(caller, request, interrupted, compared);
         self.steps.take(Link::Plain);
         self.busy = true;

@@ -1,5 +1,6 @@
 -- What a decision comes to in the records.
 use Rattle.std.proofs.Common.{◌≡◌, ℕ, ◌<◌, List, [], ◌∷◌, ◌++◌, refl, sym, ap, ◌∙◌, subst, Bool, true, false, Option, Some, None}
+use Rattle.std.specs.Prelude.{if◌then◌else◌, ◌==◌}
 use Rattle.std.proofs.lemmas.Bool.{false≢true}
 use Rattle.kern_base.specs.Services.{renews}
 use Rattle.kern_base.specs.declared.services.Service.{Service}
@@ -16,7 +17,7 @@ use Rattle.kern_base.specs.declared.outcomes.Who.TheVariants.{First, All, Matchi
 use Rattle.kern_model.specs.State.{Kernel, Task, task_at, update_task}
 use Rattle.kern_model.specs.Micro.{at_head, at_tail}
 use Rattle.kern_model.specs.Effect.{Effect, answered_task, answers, fine, posted_result, posted_to, result_of, unmatched, waited, wakes, wakes_all, chosen}
-use Rattle.kern_model.specs.Checks.{argument}
+use Rattle.kern_model.specs.Checks.{argument, named_task}
 use Rattle.kern_model.specs.FlagBits.{ready_bits}
 use Rattle.kern_model.specs.Flags.{flag_wakes, flag_wakes_all}
 use Rattle.kern_model.specs.Services.{content_for}
@@ -27,7 +28,8 @@ use Rattle.kernel_records.specs.RecordsRecord.{without_lists}
 use Rattle.kernel_records.specs.SchedulerCalls.{is_scheduler_call}
 use Rattle.kernel_records.specs.Served.{IsSingle, is_served_wake, is_served_wait, may_wake_all}
 use Rattle.kernel_records.specs.Deciding.{IsServedDecision, acts, changed_by, changed_objects, object_change, own_change, task_change}
-use Rattle.kernel_records.specs.Concluding.{AreSingle, HasOutcome, IsConcluded, awakened, awakened_all, awakens, concluded, given, given_ready, handing, looked_at, looked_at_all, outcome_of, waiting_in}
+use Rattle.kernel_records.specs.Suspension.{moves_task, outcome_moved, records_moved}
+use Rattle.kernel_records.specs.Concluding.{AreSingle, HasOutcome, IsConcluded, awakened, awakened_all, awakens, concluded, given, given_ready, handing, looked_at, looked_at_all, outcome_after, outcome_of, records_after, waiting_in}
 
 -- tasks that are woken, in the records
 pub wakes-awakened : (r : Request) (h : ℕ) (xs : List ℕ) (k : Kernel) → without_lists (wakes_all (handing r) h xs k) ≡ awakened_all r xs (without_lists k)
@@ -166,7 +168,7 @@ awakens-bare First r xs k = awakened-bare r xs k
 awakens-bare All r xs k = awakened-bare r xs k
 awakens-bare Matching r xs k = looked-bare (bits_in (content_for r k)) xs k
 
-pub concluded-bare : (d : Decision) (r : Request) (x : ℕ) (xs : List ℕ) (k : Kernel) → without_lists (concluded d r x xs k) ≡ concluded d r x xs (without_lists k)
+concluded-bare : (d : Decision) (r : Request) (x : ℕ) (xs : List ℕ) (k : Kernel) → without_lists (concluded d r x xs k) ≡ concluded d r x xs (without_lists k)
 concluded-bare (Done a) r x xs k = own-bare r x (Done a) k
 concluded-bare Block r x xs k = ap (λ (j : Kernel). waiting_in r x j) (own-bare r x Block k)
 concluded-bare (Wake who) r x xs k =
@@ -187,6 +189,26 @@ outcome-bare Block r xs k = refl
 outcome-bare (Wake First) r xs k = replied-bare r.service r xs k
 outcome-bare (Wake All) r xs k = replied-bare r.service r xs k
 outcome-bare (Wake Matching) r xs k = refl
+
+-- the records and the outcome after a call that suspends a task or resumes one, and after any other
+pub after-moved : (d : Decision) (r : Request) (x : ℕ) (xs : List ℕ) (k : Kernel) → moves_task r.service d ≡ true → records_after d r x xs k ≡ records_moved r.service (named_task r x) x k
+after-moved d r x xs k m = ap (λ b. if b then records_moved r.service (named_task r x) x k else concluded d r x xs k) m
+
+pub after-decided : (d : Decision) (r : Request) (x : ℕ) (xs : List ℕ) (k : Kernel) → moves_task r.service d ≡ false → records_after d r x xs k ≡ concluded d r x xs k
+after-decided d r x xs k m = ap (λ b. if b then records_moved r.service (named_task r x) x k else concluded d r x xs k) m
+
+pub outcome-moved : (d : Decision) (r : Request) (x : ℕ) (xs : List ℕ) (k : Kernel) → moves_task r.service d ≡ true → outcome_after d r x xs k ≡ outcome_moved r.service (named_task r x == x)
+outcome-moved d r x xs k m = ap (λ b. if b then outcome_moved r.service (named_task r x == x) else outcome_of d r xs (own_change r x d k)) m
+
+pub outcome-decided : (d : Decision) (r : Request) (x : ℕ) (xs : List ℕ) (k : Kernel) → moves_task r.service d ≡ false → outcome_after d r x xs k ≡ outcome_of d r xs (own_change r x d k)
+outcome-decided d r x xs k m = ap (λ b. if b then outcome_moved r.service (named_task r x == x) else outcome_of d r xs (own_change r x d k)) m
+
+bare-if : (b : Bool) (d : Decision) (r : Request) (x : ℕ) (xs : List ℕ) (k : Kernel) → moves_task r.service d ≡ b → without_lists (records_after d r x xs k) ≡ records_after d r x xs (without_lists k)
+bare-if true d r x xs k m = ap without_lists (after-moved d r x xs k m) ∙ sym (after-moved d r x xs (without_lists k) m)
+bare-if false d r x xs k m = ap without_lists (after-decided d r x xs k m) ∙ concluded-bare d r x xs k ∙ sym (after-decided d r x xs (without_lists k) m)
+
+pub after-bare : (d : Decision) (r : Request) (x : ℕ) (xs : List ℕ) (k : Kernel) → without_lists (records_after d r x xs k) ≡ records_after d r x xs (without_lists k)
+after-bare d r x xs k = bare-if (moves_task r.service d) d r x xs k refl
 
 -- a task that waits for several objects does not get the answer of a post alone; any other does
 single-posted : (w : Waiting) (o : ℕ) (a : Answer) (t : Task) → IsSingle w → posted_to w o a t ≡ waited w t a

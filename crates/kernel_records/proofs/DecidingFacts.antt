@@ -10,7 +10,7 @@ use Rattle.kern_base.specs.Checks.{static_error, target_error, object_error, is_
 use Rattle.kern_base.specs.declared.kinds.Kind.{Kind}
 use Rattle.kern_base.specs.declared.kinds.Kind.TheVariants.{Sem, Queue, Flags, OneShot, Periodic}
 use Rattle.kern_base.specs.declared.services.Service.{Service}
-use Rattle.kern_base.specs.declared.services.Service.TheVariants.{SemPost, QPost, FlagPost, TaskSemPost, TaskQPost, SemPend, QPend, FlagPend, TaskSemPend, TaskQPend, QDel, SchedLock, SchedUnlock, TimeGet, TimeDly, TimeDlyResume, SemPendAbort, QPendAbort, FlagPendAbort, TaskSemPendAbort, TaskQPendAbort, SemDel, FlagDel}
+use Rattle.kern_base.specs.declared.services.Service.TheVariants.{SemPost, QPost, FlagPost, TaskSemPost, TaskQPost, SemPend, QPend, FlagPend, TaskSemPend, TaskQPend, QDel, SchedLock, SchedUnlock, TimeGet, TimeDly, TimeDlyResume, SemPendAbort, QPendAbort, FlagPendAbort, TaskSemPendAbort, TaskQPendAbort, SemDel, FlagDel, TaskSuspend, TaskResume}
 use Rattle.kern_base.specs.declared.requests.Request.{Request}
 use Rattle.kern_base.specs.declared.errors.OsErr.{OsErr}
 use Rattle.kern_base.specs.declared.errors.OsErr.TheVariants.{CallUnknown, ObjectType, OptionInvalid, TaskInvalid, TaskNotExist}
@@ -39,7 +39,8 @@ use Rattle.msg_queues.specs.Rows.{IsQueueDecided}
 use Rattle.kernel_records.specs.RecordsRecord.{with_lists}
 use Rattle.kernel_records.specs.SchedulerCalls.{is_scheduler_call, lock_after, scheduler_decision, scheduler_decision_for, scheduler_waiters}
 use Rattle.kernel_records.specs.Served.{is_served_wake, is_served_wait, serves_object}
-use Rattle.kernel_records.specs.Deciding.{IsCallOn, IsRow, acts, changed_by, changed_objects, content_after, decision_about, decision_after, decision_by, decision_of, decision_on_objects, free_after, object_change, own_change, own_task_after, scheduler_change, task_change, waiters_of}
+use Rattle.kernel_records.specs.Suspension.{is_suspension, moves_task, suspension_of}
+use Rattle.kernel_records.specs.Deciding.{IsCallOn, IsRow, acts, effect_by, changed_by, changed_objects, content_after, decision_about, decision_after, decision_by, decision_of, decision_on_objects, free_after, object_change, own_change, own_task_after, scheduler_change, task_change, waiters_of}
 
 -- an object that keeps what it holds
 pub same-content : (k : Kernel) (o : ℕ) (c : Content) → c ≡ (object_at k o).content → with_content k o c ≡ k
@@ -141,9 +142,34 @@ fails-call r x k err e =
     (fails-if (names_option r.service r.args) (target_error (kinds_wanted r.service) (names_task r.service) r.args (kinds_of k) (nat_lt x 60)) (Some OptionInvalid) (fails-target (kinds_wanted r.service) (names_task r.service) r.args (kinds_of k) (nat_lt x 60)) refl)
     (fails-if (is_deleted (kinds_wanted r.service) (object_at k (argument r 0))) (Some ObjectType) _ refl (fails-if (names_task r.service && not (task_at k (named_task r x)).alive) (Some TaskNotExist) None refl tt)))
 
+-- a call that suspends no task and resumes none comes to what was decided
+pub effect-decided : (r : Request) (d : Decision) (x h : ℕ) (xs : List ℕ) (k : Kernel) → moves_task r.service d ≡ false → effect_by d r x h xs k ≡ decided d r.service r x h xs (own_change r x d k)
+effect-decided r d x h xs k n = ap (λ b. if b then suspension_of r.service (named_task r x) x h k else decided d r.service r x h xs (own_change r x d k)) n
+
+pub effect-moved : (r : Request) (d : Decision) (x h : ℕ) (xs : List ℕ) (k : Kernel) → moves_task r.service d ≡ true → effect_by d r x h xs k ≡ suspension_of r.service (named_task r x) x h k
+effect-moved r d x h xs k n = ap (λ b. if b then suspension_of r.service (named_task r x) x h k else decided d r.service r x h xs (own_change r x d k)) n
+
+-- such are the calls that are not on the scheduler, and those that are refused
+no-suspension : (s : Service) → is_scheduler_call s ≡ false → is_suspension s ≡ false
+no-suspension TaskSuspend n = absurd (false≢true (sym n))
+no-suspension TaskResume n = absurd (false≢true (sym n))
+no-suspension _ n = refl
+
+pub still-objects : (s : Service) (d : Decision) → is_scheduler_call s ≡ false → moves_task s d ≡ false
+still-objects s d n = ap (λ b. b && acts d) (no-suspension s n)
+
+still-if : (b c : Bool) → c ≡ false → (b && c) ≡ false
+still-if true c h = h
+still-if false c h = refl
+
+pub still-refused : (s : Service) (d : Decision) → acts d ≡ false → moves_task s d ≡ false
+still-refused s d h = still-if (is_suspension s) (acts d) h
+
 -- a refusal as a decision
-pub row-refused : (r : Request) (x h : ℕ) (xs : List ℕ) (k : Kernel) (err : OsErr) → is_no_error err ≡ false → refused k err ≡ decided (refusal err) r.service r x h xs (own_change r x (refusal err) k)
-row-refused r x h xs k err e = ap (λ j. refused j err) (sym (own-refused r x err k e))
+pub row-refused : (r : Request) (x h : ℕ) (xs : List ℕ) (k : Kernel) (err : OsErr) → is_no_error err ≡ false → refused k err ≡ effect_by (refusal err) r x h xs k
+row-refused r x h xs k err e =
+    ap (λ j. refused j err) (sym (own-refused r x err k e))
+    ∙ sym (effect-decided r (refusal err) x h xs k (still-refused r.service (refusal err) e))
 
 -- a decision that acts comes of a call that has passed its checks
 pub record HasPassed (r : Request) (seen : Around) (d : Decision) (k : Kernel) : Type 0 where
@@ -191,6 +217,8 @@ scheduler-lists SchedUnlock r seen k l = refl
 scheduler-lists TimeGet r seen k l = refl
 scheduler-lists TimeDly r seen k l = refl
 scheduler-lists TimeDlyResume r seen k l = refl
+scheduler-lists TaskSuspend r seen k l = refl
+scheduler-lists TaskResume r seen k l = refl
 scheduler-lists _ r seen k l = refl
 
 pub scheduler-waiters : (s : Service) (r : Request) (x : ℕ) (k : Kernel) (l : Lists) → scheduler_waiters s r x k ≡ scheduler_waiters s r x (with_lists k l)
@@ -225,6 +253,8 @@ serves-by SchedUnlock p n = absurd (false≢true (sym n))
 serves-by TimeGet p n = absurd (false≢true (sym n))
 serves-by TimeDly p n = absurd (false≢true (sym n))
 serves-by TimeDlyResume p n = absurd (false≢true (sym n))
+serves-by TaskSuspend p n = absurd (false≢true (sym n))
+serves-by TaskResume p n = absurd (false≢true (sym n))
 serves-by _ p n = absurd (false≢true p)
 
 -- and the first is neither the second

@@ -12,3 +12,4 @@ pub mod ConcludingFacts
 pub mod DeletionFacts
 pub mod StartFacts
 pub mod WaitFacts
+pub mod SuspensionFacts

@@ -39,7 +39,7 @@ use Rattle.kernel_records.specs.RecordsRecord.{with_lists}
 use Rattle.kernel_records.specs.SchedulerCalls.{is_scheduler_call, lock_after, scheduler_waiters}
 use Rattle.kernel_records.specs.Served.{is_served_wake, is_served_wait, may_wake_all, serves_object}
 use Rattle.kernel_records.specs.Deciding.{IsCallOn, IsObjectRow, IsRow, IsServedDecision, acts, changed_by, content_after, decision_by, free_after, object_change, own_change, own_task_after, scheduler_change, task_change, waiters_of, waiters_of_objects}
-use Rattle.kernel_records.proofs.DecidingFacts.{changed-object, changed-task, no-scheduler, own-acts, own-none, own-scheduler, same-content, same-lock, served-object}
+use Rattle.kernel_records.proofs.DecidingFacts.{changed-object, changed-task, effect-decided, no-scheduler, own-acts, own-none, own-scheduler, same-content, same-lock, served-object, still-objects}
 
 -- a call without success leaves what its object holds
 
@@ -132,6 +132,7 @@ module _ (r : Request) (seen : Around) (d : Decision) (k : Kernel) (s : program_
       ∙ does j i h held refl (around-lists seen (list_at l.pend (argument r 0)) k l (subst (λ ys. IsAround seen ys k) xs around))
       ∙ ap (λ ys. decided d r.service r seen.caller.0 h ys (record (with_content j (argument r 0) (content_after r d c)) { free = free_after r d c k.free })) (sym xs)
       ∙ ap (decided d r.service r seen.caller.0 h (waiters_of r seen.caller.0 j)) (sym (own-object r seen j n t d c (acts d) refl held same))
+      ∙ sym (effect-decided r d seen.caller.0 h (waiters_of r seen.caller.0 j) j (still-objects r.service d n))
 
   -- by what the object decides
   pub row-by : (c : Content) → is_scheduler_call r.service ≡ false → is_task_call r.service ≡ false → content_for r k ≡ c → d ≡ decision_by c k.free r seen → IsObjectRow r seen d c k.free → IsRow r seen d k
@@ -184,6 +185,7 @@ row-task r seen d k n limit ms s p t holds does l i h around =
     ∙ ap (λ (a : ℕ × List (ℕ × ℕ)). decided d r.service r seen.caller.0 h (waiters r.service y j) (record (with_task j y (λ u. record u { count = own.count_after r.service d a.0; messages = own.messages_after r.service d r a.1 })) { free = own.free_after r.service d j.free })) (ap (λ m. (m, ms)) (sym holds.counted) ∙ ap (λ m. ((task_at k y).count, m)) (sym holds.filled))
     ∙ ap (λ ys. decided d r.service r seen.caller.0 h ys (task_change r y d j)) (sym xs)
     ∙ ap (decided d r.service r seen.caller.0 h (waiters_of r seen.caller.0 j)) (sym (own-task d r seen.caller.0 j (acts d) refl (no-scheduler r.service s) t))
+    ∙ sym (effect-decided r d seen.caller.0 h (waiters_of r seen.caller.0 j) j (still-objects r.service d (no-scheduler r.service s)))
 
 -- the decisions of the services that are served
 

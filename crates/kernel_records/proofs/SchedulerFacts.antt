@@ -1,13 +1,13 @@
 -- Calls on the scheduler: what is decided of them is what their services do.
 use Rattle.std.proofs.Common.{◌≡◌, ◌≢◌, ℕ, zero, suc, ◌<◌, ◌≤◌, ◌+◌, ◌-◌, List, [], ◌∷◌, refl, sym, ap, ◌∙◌, subst, Bool, true, false, not, ◌&&◌, ◌||◌, Option, Some, None, inl, inr, arith}
-use Rattle.std.specs.Prelude.{if◌then◌else◌, ◌==◌, slice_get, All}
+use Rattle.std.specs.Prelude.{if◌then◌else◌, ◌==◌, nat_lt, slice_get, All}
 use Rattle.std.proofs.lemmas.Bool.{false≢true}
-use Rattle.std.proofs.lemmas.Bool.Decides.{eqb_tells}
+use Rattle.std.proofs.lemmas.Bool.Decides.{eqb_tells, leb_tells}
 use Rattle.kern_base.specs.declared.services.Service.{Service}
-use Rattle.kern_base.specs.declared.services.Service.TheVariants.{SchedLock, SchedUnlock, TimeGet, TimeDly, TimeDlyResume}
+use Rattle.kern_base.specs.declared.services.Service.TheVariants.{SchedLock, SchedUnlock, TimeGet, TimeDly, TimeDlyResume, TaskSuspend, TaskResume}
 use Rattle.kern_base.specs.declared.requests.Request.{Request}
 use Rattle.kern_base.specs.declared.errors.OsErr.{OsErr}
-use Rattle.kern_base.specs.declared.errors.OsErr.TheVariants.{LockOverflow, SchedLocked, SchedNotLocked, ZeroDelay}
+use Rattle.kern_base.specs.declared.errors.OsErr.TheVariants.{Depth, LockOverflow, SchedLocked, SchedNotLocked, TaskNotSuspended, TaskResumeSelf, ZeroDelay}
 use Rattle.kern_base.specs.declared.outcomes.Around.{Around}
 use Rattle.kern_base.specs.declared.outcomes.Decision.{Decision}
 use Rattle.kern_base.specs.declared.outcomes.Decision.TheVariants.{Done, Block}
@@ -19,14 +19,15 @@ use Rattle.kern_model.specs.Checks.{call_error, named_task}
 use Rattle.kern_model.specs.Effect.{answer, blocks_on, done, fine, refused, waits_for}
 use Rattle.served.specs.Served.{program_serves}
 use Rattle.kern_model.specs.Services.{perform}
-use Rattle.kern_model.specs.Tasks.{unlocks}
+use Rattle.kern_model.specs.Tasks.{resumes, suspends, unlocks}
 use Rattle.kern_model.specs.Time.{delay_of, delays, resumes_delayed}
 use Rattle.decisions.specs.Decided.{decided, ended_delay, replied}
 use Rattle.decisions.specs.Rows.{refusal}
 use Rattle.tick_timers.specs.Delays.{delay_decision, is_delayed, resume_decision}
 use Rattle.kernel_records.specs.RecordsRecord.{with_lists}
+use Rattle.kernel_records.specs.Suspension.{resumed_from, suspend_decision, task_resume_decision}
 use Rattle.kernel_records.specs.SchedulerCalls.{is_scheduler_call, lock_after, lock_decision, scheduler_decision, scheduler_decision_for, scheduler_waiters, unlocked_to}
-use Rattle.kernel_records.specs.Deciding.{IsRow, IsServedDecision, acts, decision_of, scheduler_change, waiters_of}
+use Rattle.kernel_records.specs.Deciding.{IsRow, IsServedDecision, acts, decision_of, effect_for, scheduler_change, waiters_of}
 use Rattle.kernel_records.proofs.DecidingFacts.{about-scheduler, acting, own-scheduler, scheduler-lists}
 use Rattle.kernel_records.proofs.RowFacts.{performed, waiters-scheduler}
 
@@ -62,7 +63,27 @@ row-resume TaskQ r x y h k = refl
 row-resume Multi r x y h k = refl
 row-resume Signal r x y h k = refl
 
-row-for : (s : Service) (r : Request) (seen : Around) (i h : ℕ) (k : Kernel) → is_scheduler_call s ≡ true → seen.locked ≡ not (k.lock == 0) → perform s (call_of r seen.caller.0 i h) k ≡ (let d = scheduler_decision_for s r seen k in decided d s r seen.caller.0 h (scheduler_waiters s r seen.caller.0 k) (locked (lock_after s d k.lock) k))
+row-suspend : (b c own : Bool) (r : Request) (x y h : ℕ) (xs : List ℕ) (k : Kernel) → (if b then refused k SchedLocked else (if c then refused k Depth else suspends own y k)) ≡ (let d = if b then refusal SchedLocked else (if c then refusal Depth else Done (fine 0)) in if acts d then suspends own y k else decided d TaskSuspend r x h xs (locked (lock_after TaskSuspend d k.lock) k))
+row-suspend true c own r x y h xs k = refl
+row-suspend false true own r x y h xs k = refl
+row-suspend false false own r x y h xs k = refl
+
+row-task-resume : (own : Bool) (n : ℕ) (r : Request) (x y h : ℕ) (xs : List ℕ) (k : Kernel) → (if own then refused k TaskResumeSelf else resumes n y h k) ≡ (let d = task_resume_decision own n in if acts d then resumes n y h k else decided d TaskResume r x h xs (locked (lock_after TaskResume d k.lock) k))
+row-task-resume true n r x y h xs k = refl
+row-task-resume false zero r x y h xs k = refl
+row-task-resume false (suc n) r x y h xs k = refl
+
+-- the lock is on
+not-zero : (n : ℕ) → 1 ≤ n → (n == 0) ≡ false
+not-zero n h = elim (eqb_tells n 0) [ inl e ↦ absurd (let z = e.1 in omega arith) | inr e ↦ e.0 ]
+
+is-zero : (n : ℕ) → n < 1 → (n == 0) ≡ true
+is-zero n h = elim (eqb_tells n 0) [ inl e ↦ e.0 | inr e ↦ absurd (e.1 (omega arith)) ]
+
+pub is-locked : (n : ℕ) → nat_lt 0 n ≡ not (n == 0)
+is-locked n = elim (leb_tells 1 n) [ inl a ↦ a.0 ∙ sym (ap not (not-zero n a.1)) | inr b ↦ b.0 ∙ sym (ap not (is-zero n b.1)) ]
+
+row-for : (s : Service) (r : Request) (seen : Around) (i h : ℕ) (k : Kernel) → is_scheduler_call s ≡ true → seen.locked ≡ not (k.lock == 0) → perform s (call_of r seen.caller.0 i h) k ≡ (let d = scheduler_decision_for s r seen k in effect_for s d r seen.caller.0 h (scheduler_waiters s r seen.caller.0 k) k (locked (lock_after s d k.lock) k))
 row-for SchedLock r seen i h k n e = row-lock (k.lock == nesting_limit) r seen.caller.0 h [] k
 row-for SchedUnlock r seen i h k n e = row-unlock ((k.lock == 0) || ((k.lock == 1) && (seen.caller.0 == timer_task))) r seen.caller.0 h [] k
 row-for TimeGet r seen i h k n e = refl
@@ -70,6 +91,15 @@ row-for TimeDly r seen i h k n e =
     row-delay (k.lock == 0) (delay_of r k.ticks) r seen.caller.0 h [] k refl
     ∙ ap (λ b. let d = delay_decision b (delay_of r k.ticks) in decided d TimeDly r seen.caller.0 h [] (locked (lock_after TimeDly d k.lock) k)) (sym e)
 row-for TimeDlyResume r seen i h k n e = let y = named_task r seen.caller.0 in row-resume (task_at k y).waiting r seen.caller.0 y h k
+row-for TaskSuspend r seen i h k n e =
+    let x = seen.caller.0 in
+    let y = named_task r x in
+    row-suspend ((y == x) && nat_lt 0 k.lock) ((task_at k y).suspended == nesting_limit) (y == x) r x y h [] k
+    ∙ ap (λ l. let d = suspend_decision ((y == x) && l) (task_at k y).suspended in effect_for TaskSuspend d r x h [] k (locked (lock_after TaskSuspend d k.lock) k)) (is-locked k.lock ∙ sym e)
+row-for TaskResume r seen i h k n e =
+    let x = seen.caller.0 in
+    let y = named_task r x in
+    row-task-resume (y == x) (task_at k y).suspended r x y h [] k
 row-for _ r seen i h k n e = absurd (false≢true n)
 
 -- what is decided is what the service does, whatever the lists are
@@ -79,9 +109,9 @@ row-scheduler r seen d k s p n e l i h around =
     let x = seen.caller.0 in
     performed r seen d k s p l i h
     ∙ row-for r.service r seen i h j n around.locked
-    ∙ ap (λ (f : Decision). decided f r.service r x h (scheduler_waiters r.service r x j) (locked (lock_after r.service f j.lock) j)) (sym (e ∙ scheduler-lists r.service r seen k l))
-    ∙ ap (λ (ys : List ℕ). decided d r.service r x h ys (scheduler_change r d j)) (sym (waiters-scheduler r x j n))
-    ∙ ap (decided d r.service r x h (waiters_of r x j)) (sym (own-scheduler r x d j n))
+    ∙ ap (λ (f : Decision). effect_for r.service f r x h (scheduler_waiters r.service r x j) j (locked (lock_after r.service f j.lock) j)) (sym (e ∙ scheduler-lists r.service r seen k l))
+    ∙ ap (λ (ys : List ℕ). effect_for r.service d r x h ys j (scheduler_change r d j)) (sym (waiters-scheduler r x j n))
+    ∙ ap (effect_for r.service d r x h (waiters_of r x j) j) (sym (own-scheduler r x d j n))
 
 -- it is one of those that come of services that are served
 
@@ -97,12 +127,22 @@ resume-served : (b : Bool) → IsServedDecision (resume_decision b) TimeDlyResum
 resume-served true = refl
 resume-served false = tt
 
+resumed-served : (n : ℕ) → IsServedDecision (resumed_from n) TaskResume
+resumed-served zero = tt
+resumed-served (suc n) = tt
+
 pub scheduler-served : (s : Service) (r : Request) (seen : Around) (k : Kernel) → IsServedDecision (scheduler_decision_for s r seen k) s
 scheduler-served SchedLock r seen k = answer-served (k.lock == nesting_limit) SchedLock LockOverflow (Done (fine (k.lock + 1))) tt
 scheduler-served SchedUnlock r seen k = answer-served ((k.lock == 0) || ((k.lock == 1) && (seen.caller.0 == timer_task))) SchedUnlock SchedNotLocked (unlocked_to (k.lock - 1)) (left-served (k.lock - 1))
 scheduler-served TimeGet r seen k = tt
 scheduler-served TimeDly r seen k = answer-served seen.locked TimeDly SchedLocked _ (answer-served (is_zero (delay_of r k.ticks)) TimeDly ZeroDelay Block refl)
 scheduler-served TimeDlyResume r seen k = resume-served (is_delayed (task_at k (named_task r seen.caller.0)).waiting)
+scheduler-served TaskSuspend r seen k =
+    let y = named_task r seen.caller.0 in
+    answer-served ((y == seen.caller.0) && seen.locked) TaskSuspend SchedLocked _ (answer-served ((task_at k y).suspended == nesting_limit) TaskSuspend Depth (Done (fine 0)) tt)
+scheduler-served TaskResume r seen k =
+    let y = named_task r seen.caller.0 in
+    answer-served (y == seen.caller.0) TaskResume TaskResumeSelf _ (resumed-served (task_at k y).suspended)
 scheduler-served _ r seen k = tt
 
 -- a lock that is taken was not taken as often as it may be

@@ -28,7 +28,7 @@ use Rattle.kernel_records.proofs.CallChanges.{own-changed}
 use Rattle.kernel_records.proofs.ObjectFacts.{length-tasks, task-at}
 
 -- a task that a call names and whose checks have passed lives
-named-alive : (r : Request) (x : ℕ) (k : Kernel) → names_task r.service ≡ true → call_error r x k ≡ None → (task_at k (named_task r x)).alive ≡ true
+pub named-alive : (r : Request) (x : ℕ) (k : Kernel) → names_task r.service ≡ true → call_error r x k ≡ None → (task_at k (named_task r x)).alive ≡ true
 named-alive r x k n h =
     let second = second_passed (static_error r.service r.args (kinds_of k) (nat_lt x 60)) (existence_error r x k) h in
     let after = (passed_if (is_deleted (kinds_wanted r.service) (object_at k (argument r 0))) ObjectType (if names_task r.service && not (task_at k (named_task r x)).alive then Some TaskNotExist else None) second).1 in
@@ -36,7 +36,7 @@ named-alive r x k n h =
     not_false (task_at k (named_task r x)).alive (subst (λ b. b && not (task_at k (named_task r x)).alive ≡ false) n dead)
 
 -- and who lives is one of the tasks
-alive-inside : (k : Kernel) (y : ℕ) → (task_at k y).alive ≡ true → y < length k.tasks
+pub alive-inside : (k : Kernel) (y : ℕ) → (task_at k y).alive ≡ true → y < length k.tasks
 alive-inside k y h =
     elim (leb_tells (length k.tasks) y) [
       | inl d ↦ absurd (false≢true (sym (ap (λ (t : Task). t.alive) (get_or_past k.tasks y no_task d.1)) ∙ h))

@@ -1,5 +1,5 @@
 -- What a decision comes to in the records: the last micro-step of a whole step makes it.
-use Rattle.std.specs.Prelude.{◌≡◌, ◌<◌, ℕ, Bool, true, false, List, [], ◌∷◌, ◌++◌, Option, Some, None}
+use Rattle.std.specs.Prelude.{◌≡◌, ◌<◌, ℕ, Bool, true, false, List, [], ◌∷◌, ◌++◌, Option, Some, None, if◌then◌else◌, ◌==◌}
 use Rattle.kern_base.specs.declared.requests.Request.{Request}
 use Rattle.kern_base.specs.declared.outcomes.Decision.{Decision}
 use Rattle.kern_base.specs.declared.outcomes.Decision.TheVariants.{Done, Block, Wake}
@@ -11,11 +11,12 @@ use Rattle.kern_base.specs.declared.outcomes.Outcome.TheVariants.{Waits}
 use Rattle.kern_base.specs.declared.outcomes.Finished.{Finished}
 use Rattle.kern_model.specs.State.{Kernel, Task, task_at, update_task}
 use Rattle.kern_model.specs.Effect.{Wait, answers, answered_task, chosen, fine, new_match, result_of, unmatched, waiting_task}
-use Rattle.kern_model.specs.Checks.{argument}
+use Rattle.kern_model.specs.Checks.{argument, named_task}
 use Rattle.kern_model.specs.FlagBits.{ready_bits}
 use Rattle.kern_model.specs.Services.{content_for}
 use Rattle.decisions.specs.Decided.{Ending, Deleted, bits_in, decided, ending_of, gone_by, handed, handed_result, replied, wait_objects, wait_of}
 use Rattle.kernel_records.specs.RecordsRecord.{without_lists}
+use Rattle.kernel_records.specs.Suspension.{moves_task, outcome_moved, records_moved}
 use Rattle.kernel_records.specs.Deciding.{IsServedDecision, own_change}
 use Rattle.kernel_records.specs.Served.{IsSingle}
 
@@ -101,6 +102,15 @@ abbrev pub outcome_of : Decision → Request → List ℕ → Kernel → Outcome
 outcome_of (Done a) r xs k = answers a
 outcome_of Block r xs k = Waits
 outcome_of (Wake who) r xs k = answers (answer_of who r xs k)
+
+-- the records and the outcome after the last micro-step of a call of x: a task was suspended or resumed, or what was decided is made
+abbrev pub records_after : Decision → Request → ℕ → List ℕ → Kernel → Kernel
+records_after d r x xs k =
+    if moves_task r.service d then records_moved r.service (named_task r x) x k else concluded d r x xs k
+
+abbrev pub outcome_after : Decision → Request → ℕ → List ℕ → Kernel → Outcome
+outcome_after d r x xs k =
+    if moves_task r.service d then outcome_moved r.service (named_task r x == x) else outcome_of d r xs (own_change r x d k)
 
 -- What the decision comes to is just that in the records, whatever the lists are.
 abbrev pub IsConcluded : Type 0

@@ -13,18 +13,21 @@ use Rattle.kern_base.specs.declared.outcomes.Who.TheVariants.{First, All, Matchi
 use Rattle.kern_model.specs.State.{Kernel, Task, Content, Count, Messages, Bits, list_at, task_at, with_content, with_task}
 use Rattle.kern_model.specs.Micro.{Lists}
 use Rattle.kern_model.specs.Call.{call_of}
-use Rattle.kern_model.specs.Checks.{argument, call_error}
+use Rattle.kern_model.specs.Checks.{argument, call_error, named_task}
+use Rattle.kern_model.specs.Effect.{Effect}
 use Rattle.kern_model.specs.Services.{content_for, effect, perform}
 use Rattle.served.specs.Served.{program_serves}
 use Rattle.decisions.specs.Around.{IsAround}
 use Rattle.decisions.specs.Decided.{decided}
-use Rattle.decisions.specs.Rows.{is_no_error, refusal}
+use Rattle.decisions.specs.Rows.{refusal}
 use Rattle.semaphores.specs.Rows as semaphore
 use Rattle.event_flags.specs.Rows as flags
 use Rattle.msg_queues.specs.Rows as queue
 use Rattle.task_objects.specs.Rows as own
 use Rattle.task_objects.specs.Rows.{is_task_call, target, waiters}
 use Rattle.kernel_records.specs.RecordsRecord.{with_lists}
+use Rattle.kernel_records.specs.Suspension.{moves_task, suspension_of}
+pub use Rattle.kernel_records.specs.Suspension.{acts}
 use Rattle.kernel_records.specs.SchedulerCalls.{is_scheduler_call, lock_after, scheduler_decision, scheduler_waiters}
 use Rattle.kernel_records.specs.Served.{is_served_wake, is_served_wait, may_wake_all}
 
@@ -72,12 +75,6 @@ decision_after None r seen k = decision_about r seen k
 abbrev pub decision_of : Request → Around → Kernel → Decision
 decision_of r seen k = if program_serves r.service then decision_after (call_error r seen.caller.0 k) r seen k else refusal CallUnknown
 
--- whether something comes of a decision: a call that is refused changes nothing
-abbrev pub acts : Decision → Bool
-acts (Done a) = is_no_error a.err
-acts Block = true
-acts (Wake who) = true
-
 -- what an object holds after this was decided of a call on it
 abbrev pub content_after : Request → Decision → Content → Content
 content_after r d (Count n) = Count (semaphore.count_after r.service d n)
@@ -118,12 +115,21 @@ changed_objects r x d k = if acts d then changed_by r x d k else k
 abbrev pub own_change : Request → ℕ → Decision → Kernel → Kernel
 own_change r x d k = if is_scheduler_call r.service then scheduler_change r d k else changed_objects r x d k
 
+-- The effect of a decision on a call of x, on a kernel k that is j once what the call is about has changed: a task is suspended or
+-- resumed, or it is what was decided.
+abbrev pub effect_for : Service → Decision → Request → ℕ → ℕ → List ℕ → Kernel → Kernel → Effect
+effect_for s d r x compared xs k j =
+    if moves_task s d then suspension_of s (named_task r x) x compared k else decided d s r x compared xs j
+
+abbrev pub effect_by : Decision → Request → ℕ → ℕ → List ℕ → Kernel → Effect
+effect_by d r x compared xs k = effect_for r.service d r x compared xs k (own_change r x d k)
+
 -- A decision is what the service does, whatever the kernel's lists are: those that wait for what the call is about have been seen.
 abbrev pub IsRow : Request → Around → Decision → Kernel → Type 0
 IsRow r seen d k =
     (l : Lists) (interrupted compared : ℕ) → IsAround seen (waiters_of r seen.caller.0 (with_lists k l)) k →
     effect program_serves (call_of r seen.caller.0 interrupted compared) (with_lists k l)
-    ≡ decided d r.service r seen.caller.0 compared (waiters_of r seen.caller.0 (with_lists k l)) (own_change r seen.caller.0 d (with_lists k l))
+    ≡ effect_by d r seen.caller.0 compared (waiters_of r seen.caller.0 (with_lists k l)) (with_lists k l)
 
 -- The decision of an object that holds this, where so many messages are free, is what the service does, in every kernel with these.
 abbrev pub IsObjectRow : Request → Around → Decision → Content → ℕ → Type 0

@@ -1,6 +1,7 @@
 pub mod RecordsRecord
 pub mod ObjectView
 pub mod Served
+pub mod Suspension
 pub mod SchedulerCalls
 pub mod Deciding
 pub mod Concluding

@@ -1,7 +1,7 @@
--- Calls on the scheduler: its lock, its ticks, and delays.
+-- Calls on the scheduler: its lock, its ticks, delays, and suspension of tasks.
 use Rattle.std.specs.Prelude.{ℕ, zero, suc, ◌+◌, ◌-◌, Bool, true, false, not, ◌&&◌, ◌||◌, List, [], ◌∷◌, if◌then◌else◌, ◌==◌}
 use Rattle.kern_base.specs.declared.services.Service.{Service}
-use Rattle.kern_base.specs.declared.services.Service.TheVariants.{SchedLock, SchedUnlock, TimeGet, TimeDly, TimeDlyResume}
+use Rattle.kern_base.specs.declared.services.Service.TheVariants.{SchedLock, SchedUnlock, TimeGet, TimeDly, TimeDlyResume, TaskSuspend, TaskResume}
 use Rattle.kern_base.specs.declared.requests.Request.{Request}
 use Rattle.kern_base.specs.declared.errors.OsErr.TheVariants.{CallUnknown, LockOverflow, SchedLocked, SchedNotLocked}
 use Rattle.kern_base.specs.declared.outcomes.Around.{Around}
@@ -13,6 +13,7 @@ use Rattle.kern_model.specs.Effect.{answer, fine}
 use Rattle.kern_model.specs.Time.{delay_of}
 use Rattle.decisions.specs.Rows.{is_no_error, refusal}
 use Rattle.tick_timers.specs.Delays.{delay_decision, is_delayed, resume_decision}
+use Rattle.kernel_records.specs.Suspension.{suspend_decision, task_resume_decision}
 
 abbrev pub is_scheduler_call : Service → Bool
 is_scheduler_call SchedLock = true
@@ -20,6 +21,8 @@ is_scheduler_call SchedUnlock = true
 is_scheduler_call TimeGet = true
 is_scheduler_call TimeDly = true
 is_scheduler_call TimeDlyResume = true
+is_scheduler_call TaskSuspend = true
+is_scheduler_call TaskResume = true
 is_scheduler_call _ = false
 
 -- the scheduler is locked so often, and once more
@@ -42,6 +45,10 @@ scheduler_decision_for SchedUnlock r seen k = unlock_decision seen.caller.0 k.lo
 scheduler_decision_for TimeGet r seen k = Done (fine k.ticks)
 scheduler_decision_for TimeDly r seen k = delay_decision seen.locked (delay_of r k.ticks)
 scheduler_decision_for TimeDlyResume r seen k = resume_decision (is_delayed (task_at k (named_task r seen.caller.0)).waiting)
+scheduler_decision_for TaskSuspend r seen k =
+    let y = named_task r seen.caller.0 in suspend_decision ((y == seen.caller.0) && seen.locked) (task_at k y).suspended
+scheduler_decision_for TaskResume r seen k =
+    let y = named_task r seen.caller.0 in task_resume_decision (y == seen.caller.0) (task_at k y).suspended
 scheduler_decision_for _ r seen k = refusal CallUnknown
 
 abbrev pub scheduler_decision : Request → Around → Kernel → Decision

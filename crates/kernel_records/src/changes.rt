@@ -1,14 +1,17 @@
 // Changes of one task's record.
 
-ghost use Rattle.std.specs.Prelude.{◌≡◌, ◌<◌, ◌∷◌, [], All, slice_index, slice_index_or, true};
+ghost use Rattle.std.specs.Prelude.{◌≡◌, ◌<◌, ◌≤◌, ◌∷◌, [], All, slice_index, slice_index_or, true};
 ghost use Rattle.kern_base.specs.declared.outcomes.Waiting.TheVariants.{Obj};
-ghost use Rattle.kern_model.specs.State.{update_task, no_task};
+ghost use Rattle.kern_model.specs.State.{nesting_limit, no_task, update_task};
 ghost use Rattle.kern_model.specs.Effect.{answered_task, waiting_task, plain_result, result_of};
+ghost use Rattle.kern_model.specs.Tasks.{suspended_task};
 ghost use Rattle.decisions.specs.Decided.{wait_objects, wait_of};
 ghost use Rattle.kernel_records.specs.Served.{IsSingle, is_served_wait};
+ghost use Rattle.kernel_records.specs.Suspension.{resumed_task};
 ghost use Rattle.kernel_records.specs.TaskChanges.{cleared_task, stopped_task};
 ghost use Rattle.tcb_pool.specs.TaskView.{task_of};
 
+use decisions::success;
 use kern_base::{Answer, Finished, Request, Service, TaskId, Waiting};
 use tcb_pool::{Tcb, Tcbs};
 use tick_timers::Ticks;
@@ -120,6 +123,35 @@ fn wait_on_object(tcb: &mut Tcb, request: &Request)
     tcb.wait = Waiting::Obj(request.service);
     tcb.ids = [request.args[0] as u8, 0, 0, 0, 0, 0, 0, 0];
     tcb.n_ids = 1;
+}
+
+// The task is suspended once more. Where it suspends itself, the answer waits until it is resumed.
+pub(crate) fn suspend_task(tasks: &mut Tcbs, task: TaskId, own: bool)
+    requires task { task.0 < 64 }
+    requires few { (slice_index_or tasks.old.tasks task.0 no_task).suspended ≤ nesting_limit }
+    ensures tasks { tasks.new.tasks ≡ update_task tasks.old.tasks task.0 (suspended_task own) }
+    ensures registers { tasks.new.registers ≡ tasks.old.registers }
+{
+    let mut tcb = *tasks.get(task);
+    let result = if own {
+        Some(plain_result(Service::TaskSuspend, success(0)))
+    } else {
+        tcb.result
+    };
+    tcb.suspended += 1;
+    tcb.result = result;
+    tasks.set(task, tcb);
+}
+
+// The task is suspended once less.
+pub(crate) fn resume_task(tasks: &mut Tcbs, task: TaskId)
+    requires task { task.0 < 64 }
+    ensures tasks { tasks.new.tasks ≡ update_task tasks.old.tasks task.0 resumed_task }
+    ensures registers { tasks.new.registers ≡ tasks.old.registers }
+{
+    let mut tcb = *tasks.get(task);
+    tcb.suspended = tcb.suspended.saturating_sub(1);
+    tasks.set(task, tcb);
 }
 
 // The result that waits for the task is gone.

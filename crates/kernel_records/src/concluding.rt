@@ -1,6 +1,6 @@
 // What was decided of a call is made.
 
-ghost use Rattle.std.specs.Prelude.{◌≡◌, ◌≢◌, ◌<◌, ◌≤◌, ◌++◌, All, false, length, slice_index, slice_set, true};
+ghost use Rattle.std.specs.Prelude.{◌≡◌, ◌≢◌, ◌<◌, ◌≤◌, ◌++◌, ℕ, All, false, length, slice_index, slice_set, true};
 ghost use Rattle.kern_base.specs.declared.services.Service.TheVariants.{SchedLock};
 ghost use Rattle.kern_base.specs.declared.outcomes.Decision.TheVariants.{Block, Wake};
 ghost use Rattle.kern_model.specs.State.{nesting_limit, object_at, task_at};
@@ -14,12 +14,13 @@ ghost use Rattle.tick_timers.specs.Matches.{IsUnmatched};
 ghost use Rattle.kernel_records.specs.Served.{IsSingle, is_served_wait};
 ghost use Rattle.kernel_records.specs.SchedulerCalls.{is_scheduler_call, lock_after};
 ghost use Rattle.kernel_records.specs.Deciding.{IsCallOn, IsServedDecision, acts, changed_by, content_after, decision_by, decision_of, free_after, object_change, own_change};
-ghost use Rattle.kernel_records.specs.Concluding.{AreSingle, answer_of, awakened_all, awakens, concluded, given, looked_at, is_deletion, looked_at_all, objects_waited, outcome_of, waiting_in};
+ghost use Rattle.kernel_records.specs.Concluding.{AreSingle, answer_of, awakened_all, awakens, concluded, given, looked_at, is_deletion, looked_at_all, objects_waited, outcome_after, outcome_of, records_after, waiting_in};
 
 use crate::changes::{answer_task, wait_for};
 use crate::objects::Content;
 use crate::records::Records;
 use crate::scheduler_calls::is_scheduler_call;
+use crate::suspension::moves_task;
 use crate::task_calls::{is_task_call, target};
 use decisions::{ended_delay, handed, reply, success};
 use event_flags::FlagGroup;
@@ -28,9 +29,38 @@ use message_store::MessageStore;
 use tick_timers::Ticks;
 
 impl Records {
-    /// Makes what was decided of a call: what the call is about changes, tasks are woken in this order, or looked at by a post of
-    /// event flags, or the caller waits. What the call came to is written over an older outcome, whatever that was.
+    /// Makes what was decided of a call: a task is suspended or resumed; or what the call is about changes, tasks are woken in this
+    /// order, or looked at by a post of event flags, or the caller waits. What the call came to is written over an older outcome,
+    /// whatever that was.
     pub fn conclude(
+        &mut self,
+        request: &Request,
+        seen: &Around,
+        decision: &Decision,
+        woken: &[u8],
+        outcome: &mut Outcome,
+    )
+        requires caller { seen.now.caller.0 < 64 }
+        requires decided { decision.now ≡ decision_of request.now seen.now self.old.state }
+        requires served { IsServedDecision decision.now request.now.service }
+        requires nesting { (x : ℕ) → (task_at self.old.state x).suspended ≤ nesting_limit }
+        requires woken { All (λ x. x < 64) woken.now }
+        requires few { length woken.now ≤ 64 }
+        requires single { AreSingle self.old.state }
+        requires fresh { decision.now ≡ Block → IsUnmatched seen.now.caller.0 self.old.state.matches }
+        requires objects { All (λ o. o < 64) (objects_waited decision.now request.now) }
+        ensures records { self.new ≡ record self.old { state = records_after decision.now request.now seen.now.caller.0 woken.now self.old.state } }
+        ensures outcome { outcome.new ≡ outcome_after decision.now request.now seen.now.caller.0 woken.now self.old.state }
+    {
+        if moves_task(request.service, decision) {
+            *outcome = self.move_task(request, seen, decision);
+        } else {
+            self.conclude_decided(request, seen, decision, woken, outcome);
+        }
+    }
+
+    // The same of a call that suspends no task and resumes none.
+    fn conclude_decided(
         &mut self,
         request: &Request,
         seen: &Around,

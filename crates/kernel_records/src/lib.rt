@@ -10,9 +10,11 @@ mod objects;
 mod records;
 mod scheduler_calls;
 mod starting;
+mod suspension;
 mod task_calls;
 
 pub use laws::{a_decision_has_its_outcome, a_decision_is_concluded};
 pub use records::Records;
 pub use scheduler_calls::is_scheduler_call;
+pub use suspension::moves_task;
 pub use task_calls::is_task_call;

@@ -1,4 +1,4 @@
-// Calls on the scheduler: its lock, its ticks, and delays.
+// Calls on the scheduler: its lock, its ticks, delays, and suspension of tasks.
 
 ghost use Rattle.std.specs.Prelude.{◌≡◌, ◌<◌, true};
 ghost use Rattle.kern_model.specs.State.{task_at};
@@ -21,7 +21,7 @@ const TIMER: TaskId = TaskId(61);
 // There are so many tasks.
 const TASKS: u32 = 64;
 
-/// Whether a call of this service is on the scheduler: its lock, its ticks, or a delay.
+/// Whether a call of this service is on the scheduler: its lock, its ticks, a delay, or a suspension.
 pub fn is_scheduler_call(service: Service) -> bool
     ensures { result ≡ is_scheduler_call service }
 {
@@ -32,6 +32,8 @@ pub fn is_scheduler_call(service: Service) -> bool
             | Service::TimeGet
             | Service::TimeDly
             | Service::TimeDlyResume
+            | Service::TaskSuspend
+            | Service::TaskResume
     )
 }
 
@@ -76,6 +78,8 @@ impl Records {
                 let number = named_task(request.args[0], seen.caller);
                 decide_resume(self.is_delayed(number))
             }
+            Service::TaskSuspend => self.decide_suspend(request, seen),
+            Service::TaskResume => self.decide_task_resume(request, seen),
             _ => refuse(OsErr::CallUnknown),
         }
     }

@@ -35,5 +35,7 @@ pub fn is_served(service: Service) -> bool
             | Service::SemDel
             | Service::QDel
             | Service::FlagDel
+            | Service::TaskSuspend
+            | Service::TaskResume
     )
 }

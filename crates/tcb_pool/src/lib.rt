@@ -8,4 +8,4 @@ mod tables;
 
 pub use kern_base::{Finished, Waiting};
 pub use records::Tcb;
-pub use tables::Tcbs;
+pub use tables::{Tcbs, is_ready};

@@ -113,8 +113,8 @@ fn place(records: &mut [Tcb], defs: &[TaskDef], quanta: u32)
     }
 }
 
-// Whether a task is alive, waits for nothing and is not suspended.
-fn is_ready(tcb: &Tcb) -> bool
+/// Whether a task is alive, waits for nothing and is not suspended.
+pub fn is_ready(tcb: &Tcb) -> bool
     ensures { result ≡ is_ready (task_of tcb.now) }
 {
     tcb.alive && matches!(tcb.wait, Waiting::No) && tcb.suspended == 0

@@ -88,12 +88,17 @@ object_below n o (p ∷ os) all some =
       | inr e ↦ let more = subst (λ b. 0 < (if b then 1 else 0) + count_of o os) e.0 some in object_below n o os (All-tail (λ q. q < n) p os all) (omega (arith, more))
     ]
 
+-- a task that is not ready stands in no ready list
+pub ready_nowhere : (k : Kernel) (x : ℕ) (l : Lists) → IsLinked k → AreKernels k l → is_ready (task_at k x) ≡ false → total x l.ready ≡ 0
+ready_nowhere k x l v same none =
+    let ready : l.ready ≡ k.ready = ap (λ (m : Lists). m.ready) same.lists in
+    total-none x l.ready (λ p. times-count x (list_at l.ready p) ∙ ap (λ ls. count_of x (list_at ls p)) ready ∙ v.lists.stands p x ∙ ap (λ b. one_if (b && (prio_of k x == p))) none)
+
 -- an application task that waits can be woken
 pub waiter_can_wake : (k : Kernel) (x : ℕ) (l : Lists) → IsLinked k → AreKernels k l → x < 60 → waits_for_nothing (task_at k x).waiting ≡ false → CanWake k.tasks x l
 waiter_can_wake k x l v same small waits =
     let n = length k.objects in let t = task_at k x in
     let task = v.tasks.each_task x in let low = task.prio_to in let few = v.sizes.objects in
-    let ready : l.ready ≡ k.ready = ap (λ (m : Lists). m.ready) same.lists in
     let pend : take n (tasks_in l.pend) ≡ k.pend = ap (λ (m : Lists). m.pend) same.lists in
     let inside : (o : ℕ) → 0 < count_of o t.objects → o < n = λ o. object_below n o t.objects task.objects in
     let there : (o : ℕ) → 0 < count_of o t.objects → 0 < count_of x (map (λ m. m / 8) (list_at l.pend o)) =
@@ -106,5 +111,5 @@ waiter_can_wake k x l v same small waits =
       prio = omega (arith, low);
       few = task.few;
       stands = stands_from k x l.pend same.noded there task.different (λ o some. let low = inside o some in omega (arith, low, few)) 0 [] t.objects refl refl task.few;
-      nowhere = total-none x l.ready (λ p. times-count x (list_at l.ready p) ∙ ap (λ ls. count_of x (list_at ls p)) ready ∙ v.lists.stands p x ∙ ap (λ b. one_if (b && (prio_of k x == p))) (no_ready t waits));
+      nowhere = ready_nowhere k x l v same (no_ready t waits);
     }

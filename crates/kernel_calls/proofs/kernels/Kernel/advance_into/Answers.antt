@@ -25,7 +25,7 @@ use Rattle.kernel_calls.proofs.StepFacts.{below-cost, busy-of, few-steps, hand-b
 use Rattle.kernel_calls.proofs.ServedFacts.{all-single}
 use Rattle.tick_timers.specs.Matches.{IsUnmatched}
 use Rattle.kernel_calls.proofs.BeginFacts.{caller-unmatched}
-use Rattle.kernel_calls.proofs.EndFacts.{same-concluded, same-outcome, sound-end, is-last, outcome-made, state-made}
+use Rattle.kernel_calls.proofs.EndFacts.{same-records, same-outcome, sound-end, is-last, outcome-made, state-made}
 use Rattle.kernel_calls.proofs.OwnFacts.{last-own, next-own}
 use Rattle.kernel_records.proofs.WaitFacts.{decision-lists}
 use Rattle.kernel_calls.proofs.kernels.Kernel.advance_into.Goals as goal
@@ -75,7 +75,7 @@ invariant_of-self g c =
     let q = c.self.inside.plan in
     let h = in-hand c.self.inside.busy w q c.self.inside.seen k c.self.inside.steps b.0 c.self.invariant.hand in
     sound-next c.self.inside.records c.self.inside.steps c.step.new.self q q c.self.inside.seen w c.count.new.self c.self.inside.busy c.self.invariant c.step.ensures.kept.0 c.count.ensures b.0
-    (hand-next w q q c.self.inside.seen k c.self.inside.steps c.step.new.self h (record { decision = refl; caller = refl; compared = refl; objects = refl; woken = refl; bits = refl })
+    (hand-next w q q c.self.inside.seen k c.self.inside.steps c.step.new.self h (record { decision = refl; caller = refl; compared = refl; objects = refl; woken = refl; known = refl; bits = refl })
     (c.step.ensures.more (blocks (effect_of w k) k) (lists_of k) w.done (links_left k.tasks q) h.end c.if-not-step.true h.midway) (ap (prios_over (links_left k.tasks q)) c.step.ensures.kept.1))
 
 pub returns-then-not-step-clause-done : goal.returns-then-not-step-clause-done
@@ -199,7 +199,7 @@ invariant_of-self-in-None g c =
     let none : links_left k.tasks q ≡ [] = last-own k.tasks c.tasks.result.now.tasks q c.tasks.ensures.tasks c.in-None.ensures.next in
     let paused = subst (λ ks. IsPaused (blocks (effect_of w k) k) (lists_of k) (w.done + 1) ks i.hand.end c.step.new.self) none (c.step.ensures.last (blocks (effect_of w k) k) (lists_of k) w.done (links_left k.tasks q) i.hand.end c.if-not-step.false i.hand.midway) in
     let records = ap (λ (r : RecordsRecord). r.state) c.conclude.ensures.records
-    ∙ same-concluded c.next_link.new.self.decision q.decision c.request.result.now w.request c.self.inside.seen.caller.0 w.caller c.as_slice.result.now (woken_of q.decision (waiters_of w.request w.caller k)) c.self.inside.records.state
+    ∙ same-records c.next_link.new.self.decision q.decision c.request.result.now w.request c.self.inside.seen.caller.0 w.caller c.as_slice.result.now (woken_of q.decision (waiters_of w.request w.caller k)) c.self.inside.records.state
     c.in-None.ensures.kept.0 (c.request.ensures ∙ ap (λ (v : WorkRecord). v.request) c.count.ensures) i.hand.planned.who (c.as_slice.ensures.value ∙ ap (λ (xs : ArrayVec ℕ). xs.items) c.in-None.ensures.kept.4 ∙ i.hand.planned.woken) in
     sound-end w c.count.new.self q c.next_link.new.self c.self.inside.seen c.self.inside.records c.conclude.new.self c.self.inside.steps c.step.new.self c.close.new.self i none paused c.step.ensures.kept.1
     c.close.ensures.kept.0 c.close.ensures.kept.1 c.close.ensures.start records
@@ -235,7 +235,7 @@ returns-in-None-clause-done g c =
     let request = c.request.ensures ∙ ap (λ (v : WorkRecord). v.request) c.count.ensures in
     let woken = c.as_slice.ensures.value ∙ ap (λ (xs : ArrayVec ℕ). xs.items) c.in-None.ensures.kept.4 ∙ i.hand.planned.woken in
     let records = ap (λ (r : RecordsRecord). r.state) c.conclude.ensures.records
-    ∙ same-concluded d q.decision r w.request c.self.inside.seen.caller.0 w.caller xs list c.self.inside.records.state c.in-None.ensures.kept.0 request i.hand.planned.who woken in
+    ∙ same-records d q.decision r w.request c.self.inside.seen.caller.0 w.caller xs list c.self.inside.records.state c.in-None.ensures.kept.0 request i.hand.planned.who woken in
     let state : state_with c.conclude.new.self.state c.close.new.self.start ≡ (effect_of w k).kernel =
     ap (λ l. state_with c.conclude.new.self.state l) c.close.ensures.start
     ∙ state-made w q c.self.inside.seen c.self.inside.records.state c.self.inside.steps.start c.self.inside.steps c.step.new.self i.valid i.served i.hand none paused c.conclude.new.self.state records in

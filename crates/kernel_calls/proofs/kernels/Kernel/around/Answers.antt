@@ -1,7 +1,7 @@
 use Rattle.std.proofs.Common.{ap, ◌∙◌, not}
 use Rattle.std.specs.Prelude.{◌==◌}
 use Rattle.kern_model.specs.State.{Task}
-use Rattle.kernel_calls.proofs.PlanningFacts.{is-locked}
+use Rattle.kernel_records.proofs.SchedulerFacts.{is-locked}
 use Rattle.kernel_calls.proofs.kernels.Kernel.around.Goals as goal
 
 pub returns-clause-around : goal.returns-clause-around

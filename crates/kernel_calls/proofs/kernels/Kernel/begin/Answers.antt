@@ -4,23 +4,24 @@ use Rattle.kern_base.specs.declared.numbers.TaskId.{TaskId}
 use Rattle.kern_base.specs.declared.numbers.Prio.{Prio}
 use Rattle.kern_model.specs.State.{list_at}
 use Rattle.kern_model.specs.Micro.{Halves, lists_of}
-use Rattle.kern_model.specs.Checks.{argument}
+use Rattle.kern_model.specs.Checks.{argument, named_task}
 use Rattle.kern_model.specs.Call.{call_of}
 use Rattle.served.specs.Served.{program_serves}
 use Rattle.kern_model.specs.Services.{effect}
 use Rattle.kern_model.specs.Valid.{IsLinked}
 use Rattle.micro_steps.specs.Halfway.{tasks_in}
 use Rattle.decisions.specs.Around.{IsAround, first_waiter}
-use Rattle.decisions.specs.Decided.{decided}
 use Rattle.task_objects.specs.Rows.{is_task_call}
 use Rattle.link_plans.specs.declared.plan.Plan.{Plan}
-use Rattle.kernel_records.specs.Deciding.{IsServedDecision, decision_of, own_change, waiters_of}
+use Rattle.kernel_records.specs.Deciding.{IsServedDecision, decision_of, effect_by, waiters_of}
 use Rattle.kernel_records.specs.Concluding.{objects_waited, woken_of}
 use Rattle.kernel_records.specs.SchedulerCalls.{is_scheduler_call}
 use Rattle.kernel_records.specs.Served.{IsServed}
 use Rattle.kernel_records.proofs.RowFacts.{waiters-object}
+use Rattle.kernel_records.proofs.SuspensionFacts.{moved-inside}
 use Rattle.kernel_calls.specs.Works.{WorkRecord, begun, effect_of}
 use Rattle.kernel_calls.specs.Stepping.{AreNodes, IsInHand, IsPlanned, planned_bits}
+use Rattle.kernel_calls.specs.Moving.{known_links}
 use Rattle.kernel_calls.specs.KernelView.{state_with}
 use Rattle.kernel_calls.proofs.BeginFacts.{begun-hand, some-steps}
 use Rattle.kernel_calls.proofs.PlanningFacts.{all-waiters, bits-lists, objects-below, woken-below}
@@ -45,6 +46,18 @@ plan_call-requires g c =
       objects = objects-below c.decide-decision.result r seen k value c.decide-decision.ensures.served c.self.invariant.valid.sizes.objects;
     }
 
+-- a task that is suspended or resumed is one of the tasks
+pub plan_move-requires-clause-inside : goal.plan_move-requires-clause-inside
+plan_move-requires-clause-inside g c =
+    let rs = c.self.inside.records.state in
+    let k = state_with rs c.self.inside.steps.start in
+    let r = c.args.request.now in
+    let seen = c.around-self-inside.result in
+    let value : c.decide-decision.result ≡ decision_of r seen k = c.decide-decision.ensures.value ∙ decision-lists r seen rs (lists_of k) in
+    let who : seen.caller.0 ≡ c.args.caller.0 = ap (λ (t : TaskId). t.0) c.around-self-inside.ensures.caller in
+    λ moves. subst (λ n. named_task r c.args.caller.0 < n) c.self.invariant.valid.sizes.tasks
+    (subst (λ z. named_task r z < length k.tasks) who (moved-inside r seen c.decide-decision.result k value moves))
+
 pub invariant_of-self : goal.invariant_of-self
 invariant_of-self g c =
     let rs = c.self.inside.records.state in
@@ -55,7 +68,7 @@ invariant_of-self g c =
     let h = c.args.compared.0 in
     let d = c.decide-decision.result in
     let p = c.plan_call.new.plan in
-    let q : Plan = record p { bits = c.planned_bits-bits.result } in
+    let q : Plan = record p { bits = c.planned_bits-bits.result; known = c.plan_move.new.known } in
     let seen = c.around-self-inside.result in
     let w = begun x r c.args.interrupted.0 h in
     let ws = waiters_of r x k in
@@ -67,10 +80,10 @@ invariant_of-self g c =
     let decision : q.decision ≡ d = c.plan_call.ensures.decision in
     let seen_bare : IsAround seen (waiters_of r seen.caller.0 k) rs = record { locked = around.locked; first = around.first ∙ ap (λ y. first_waiter (waiters_of r y k)) (sym who); prio = around.prio } in
     let row = c.decide-decision.ensures.row (lists_of k) c.args.interrupted.0 h seen_bare in
-    let does : effect_of w k ≡ decided q.decision r.service r x h ws (own_change r x q.decision k) =
+    let does : effect_of w k ≡ effect_by q.decision r x h ws k =
     ap (λ y. effect program_serves (call_of r y c.args.interrupted.0 h) k) (sym who) ∙ row
-    ∙ ap (λ y. decided d r.service r y h (waiters_of r y k) (own_change r y d k)) who
-    ∙ ap (λ e. decided e r.service r x h ws (own_change r x e k)) (sym decision) in
+    ∙ ap (λ y. effect_by d r y h (waiters_of r y k) k) who
+    ∙ ap (λ e. effect_by e r x h ws k) (sym decision) in
     let value : q.decision ≡ decision_of r seen k = decision ∙ c.decide-decision.ensures.value ∙ decision-lists r seen rs (lists_of k) in
     let served : IsServedDecision q.decision r.service = subst (λ e. IsServedDecision e r.service) (sym decision) c.decide-decision.ensures.served in
     let pend = c.pend-pend.ensures.forward ∙ ap (λ (a : Halves). a.forward.pend) (c.chains.ensures.0 ∙ rest.halves) in
@@ -91,6 +104,7 @@ invariant_of-self g c =
       woken = woken;
       bits = c.planned_bits-bits.ensures x ∙ bits-lists d r x rs (lists_of k) ∙ ap (λ e. planned_bits e r x k) (sym decision);
       objects = objects;
+      known = c.plan_move.ensures ∙ ap (λ e. known_links e r x h k) (sym decision);
       woken_below = subst (All (λ y. y < 64)) (sym woken) (woken-below q.decision k ws (AllWait-waiters r x k c.self.invariant.valid));
       objects_below = subst (All (λ y. y < 64)) (sym objects) (objects-below q.decision r seen k value served c.self.invariant.valid.sizes.objects);
     } in

@@ -11,7 +11,7 @@ use Rattle.kernel_records.specs.Concluding.{awakens, is_deletion, waiting_in}
 use Rattle.kernel_records.specs.RecordsRecord.{RecordsRecord}
 use Rattle.kernel_records.proofs.DeletionFacts.{deleted-empty, deleted-there}
 use Rattle.kernel_records.proofs.RowFacts.{own-block}
-use Rattle.kernel_records.proofs.records.Records.conclude.Goals as goal
+use Rattle.kernel_records.proofs.records.Records.conclude_decided.Goals as goal
 
 pub returns-in-Block-clause-records : goal.returns-in-Block-clause-records
 returns-in-Block-clause-records c =
