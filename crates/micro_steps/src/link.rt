@@ -4,7 +4,7 @@ use kern_base::{ObjId, Prio, TaskId};
 
 /// A block of micro-steps: who joins or leaves which list. Tasks are below 64, nodes of waiters below 512, priorities and
 /// objects below 64.
-#[derive(Clone, Copy)]
+#[derive(Clone, Copy, Default)]
 pub enum Link {
     /// The task leaves the ready list of this priority.
     Unready(TaskId, Prio),
@@ -15,6 +15,7 @@ pub enum Link {
     /// The node leaves the waiters of an object.
     Leave(u16, ObjId),
     /// Nothing but a micro-step.
+    #[default]
     Plain,
 }
 

@@ -153,7 +153,7 @@ invariant_of-self-in-Some g c =
     sound-next c.self.inside.records c.self.inside.steps c.take.new.self q p c.self.inside.seen w c.count.new.self c.self.inside.busy c.self.invariant (c.take.ensures.kept.1 ∙ c.step.ensures.kept.0) c.count.ensures b.0
     (in-next w q p c.self.inside.seen k c.self.inside.steps c.step.new.self c.take.new.self c.in-Some.link h next
     (c.step.ensures.last ms (lists_of k) w.done (links_left k.tasks q) h.end c.if-not-step.false h.midway) c.step.ensures.kept.1
-    (record { decision = kept.0; caller = kept.1; compared = kept.2; objects = kept.3; woken = kept.4; bits = kept.5 }) c.take.ensures.prios
+    (record { decision = kept.0; caller = kept.1; compared = kept.2; objects = kept.3; woken = kept.4; known = kept.5; bits = kept.6 }) c.take.ensures.prios
     (c.take.ensures.midway ms (lists_of k) (w.done + 1) (links_left k.tasks p) h.end))
 
 pub returns-in-Some-clause-done : goal.returns-in-Some-clause-done
