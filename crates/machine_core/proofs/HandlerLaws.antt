@@ -1,19 +1,19 @@
 -- The handler of deferred posts is no task: it stands in no list, also in the middle of a whole step.
-use Rattle.std.specs.Prelude.{take, insert, length, replicate, if◌then◌else◌, ◌==◌, ◌&&◌, ◌||◌, ◌-◌, ◌^◌}
+use Rattle.std.specs.Prelude.{take, insert, length, replicate, if◌then◌else◌, ◌==◌, ◌&&◌, ◌||◌, ◌-◌, ◌^◌, nat_lt}
 use Rattle.std.proofs.Common.{◌≡◌, ◌≢◌, ℕ, zero, suc, ◌+◌, List, [], ◌∷◌, ◌++◌, Bool, true, false, Option, Some, None, refl, sym, ap, ◌∙◌, subst, inl, inr, arith, ne_eqb, length-set}
 use Rattle.std.proofs.lemmas.Bool.{false≢true}
 use Rattle.std.proofs.lemmas.Bool.Decides.{eqb_tells, leb_tells}
 use Rattle.std.proofs.lemmas.List.{get_or_past}
 use Rattle.kern_base.specs.declared.services.Service.{Service}
-use Rattle.kern_base.specs.declared.services.Service.TheVariants.{SemPost, QPost, FlagPost, TaskSemPost, TaskQPost, SemPend, QPend, FlagPend, TaskSemPend, TaskQPend, SchedLock, SchedUnlock, TimeGet, TimeDly, TimeDlyResume, SemPendAbort, QPendAbort, FlagPendAbort, TaskSemPendAbort, TaskQPendAbort, SemDel, QDel, FlagDel}
-use Rattle.kern_base.specs.Services.{is_post}
+use Rattle.kern_base.specs.declared.services.Service.TheVariants.{SemPost, QPost, FlagPost, TaskSemPost, TaskQPost, SemPend, QPend, FlagPend, TaskSemPend, TaskQPend, SchedLock, SchedUnlock, TimeGet, TimeDly, TimeDlyResume, SemPendAbort, QPendAbort, FlagPendAbort, TaskSemPendAbort, TaskQPendAbort, SemDel, QDel, FlagDel, TaskSuspend, TaskResume}
+use Rattle.kern_base.specs.Services.{is_post, names_task}
 use Rattle.kern_base.specs.declared.requests.Request.{Request}
 use Rattle.kern_base.specs.declared.errors.OsErr.{OsErr}
-use Rattle.kern_base.specs.declared.errors.OsErr.TheVariants.{SemOverflow, SchedLocked, SchedNotLocked, LockOverflow, PendAbortSelf, CallUnknown}
+use Rattle.kern_base.specs.declared.errors.OsErr.TheVariants.{SemOverflow, SchedLocked, SchedNotLocked, LockOverflow, PendAbortSelf, CallUnknown, Depth, TaskResumeSelf}
 use Rattle.kern_base.specs.declared.outcomes.Waiting.{Waiting}
 use Rattle.kern_base.specs.declared.outcomes.Waiting.TheVariants.{No, Delay, Obj, TaskSem, TaskQ, Multi, Signal}
 use Rattle.kern_model.specs.Call.{Call}
-use Rattle.kern_model.specs.State.{Kernel, Content, Count, Messages, Bits, Held, Timed, count_of, list_at, object_at, prio_of, task_at, update_list, waits_for_nothing, with_content, with_task, without, nesting_limit, timer_task}
+use Rattle.kern_model.specs.State.{Kernel, Content, Count, Messages, Bits, Held, Timed, count_of, is_ready, list_at, object_at, prio_of, task_at, update_list, waits_for_nothing, with_content, with_task, without, nesting_limit, timer_task}
 use Rattle.kern_model.specs.Micro.{Micro, Plain, JoinForward, JoinBack, LeaveForward, LeaveBack, Mark, Ready, Pend, Block, Lists, Halves, changed, changed_all, in_order, after, plain, wait_place, whole, lists_of}
 use Rattle.kern_model.specs.Effect.{Effect, Wait, refused, done, fine, chosen, waits_unless, blocks_on, waits_for, leave_blocks, ready_blocks, wake_blocks, wakes_blocks, wait_blocks, block_blocks}
 use Rattle.kern_model.specs.Checks.{argument, call_error, named_task}
@@ -23,13 +23,14 @@ use Rattle.kern_model.specs.Options.{aborts_all, deletes_always, does_not_wait, 
 use Rattle.kern_model.specs.Queues.{q_pend, q_post, q_post_to, store_error, store_in, stored}
 use Rattle.kern_model.specs.TaskObjects.{task_abort, task_abort_of, waits_for_queue, waits_for_semaphore, task_q_pend_on, task_q_post_to, task_sem_pend_on, task_sem_post_to, task_store}
 use Rattle.kern_model.specs.Semaphores.{sem_post_to, sem_post, sem_pend}
-use Rattle.kern_model.specs.Tasks.{sched_lock, sched_unlock, unlocks}
+use Rattle.kern_model.specs.Tasks.{resumed_blocks, resumes, sched_lock, sched_unlock, suspends, task_resume, task_suspend, unlocks, unready_blocks}
 use Rattle.kern_model.specs.Time.{delay_of, delays, resumes_delayed, time_dly}
 use Rattle.kern_model.specs.Waiters.{aborts, delete, deletes, pend_abort}
 use Rattle.served.specs.Served.{program_serves}
 use Rattle.kern_model.specs.Services.{effect, after_checks, perform, blocks, half}
 use Rattle.kern_model.specs.Valid.{IsLinked}
 use Rattle.kern_model.proofs.Lemmas.{count-insert, count-without_other, count-without_same, list-inside, list-other, application-pend, inside-ready, choice}
+use Rattle.kernel_records.proofs.TaskCalls.{named-alive}
 use Rattle.machine_core.specs.LookView.{AreWithoutHandler, HasNoHandler}
 
 -- One list of many.
@@ -339,6 +340,35 @@ apart-delete : (r : Request) (h : ℕ) (k : Kernel) → IsLinked k → Apart (de
 apart-delete r h k v =
     apart-deletes (deletes_always (argument r 1)) (list_at k.pend (argument r 0)) (argument r 0) h k (application-pend k v (argument r 0) 63 (omega arith))
 
+-- suspension
+
+blocks-unready : (b : Bool) (y p : ℕ) → AreBlocks (unready_blocks b y p)
+blocks-unready true y p = (λ l. (tt, (tt, tt)), tt)
+blocks-unready false y p = tt
+
+apart-task_suspend : (r : Request) (x : ℕ) (k : Kernel) → Apart (task_suspend r x k)
+apart-task_suspend r x k =
+    let y = named_task r x in
+    let most = (task_at k y).suspended == nesting_limit in
+    let e = suspends (y == x) y k in
+    choice Apart ((y == x) && nat_lt 0 k.lock) (refused k SchedLocked) (if most then refused k Depth else e) tt
+    (choice Apart most (refused k Depth) e tt (blocks-unready (is_ready (task_at k y)) y (task_at k y).prio))
+
+blocks-resumed : (b : Bool) (n y p h : ℕ) → y ≢ 63 → AreBlocks (resumed_blocks b n y p h)
+blocks-resumed true n y p h other = blocks-ready n y p h other
+blocks-resumed false n y p h other = tt
+
+apart-resumes : (n y h : ℕ) (k : Kernel) → y ≢ 63 → Apart (resumes n y h k)
+apart-resumes zero y h k other = tt
+apart-resumes (suc n) y h k other = blocks-resumed (waits_for_nothing (task_at k y).waiting) n y (task_at k y).prio h other
+
+apart-task_resume : (r : Request) (x h : ℕ) (k : Kernel) → IsLinked k → (task_at k (named_task r x)).alive ≡ true → Apart (task_resume r x h k)
+apart-task_resume r x h k v lives =
+    let y = named_task r x in
+    let n = (task_at k y).suspended in
+    choice Apart (y == x) (refused k TaskResumeSelf) (resumes n y h k) tt
+    (apart-resumes n y h k (λ e. false≢true (sym (ap (λ z. (task_at k z).alive) e ∙ v.internal.handler) ∙ lives)))
+
 -- who waits for its own semaphore or queue waits
 semaphore-waits : (w : Waiting) → waits_for_semaphore w ≡ true → waits_for_nothing w ≡ false
 semaphore-waits TaskSem h = refl
@@ -348,38 +378,40 @@ queue-waits : (w : Waiting) → waits_for_queue w ≡ true → waits_for_nothing
 queue-waits TaskQ h = refl
 queue-waits _ h = absurd (false≢true h)
 
-apart-perform : (s : Service) (call : Call) (k : Kernel) → IsLinked k → program_serves s ≡ true → (is_post s ≡ false → call.caller ≢ 63) → Apart (perform s call k)
-apart-perform SemPost call k v e who = apart-sem_post (object_at k (argument call.request 0)).content call.request call.compared k v
-apart-perform QPost call k v e who = apart-q_post (object_at k (argument call.request 0)).content call.request call.compared k v
-apart-perform FlagPost call k v e who = apart-flag_post (object_at k (argument call.request 0)).content call.request call.compared k v
-apart-perform TaskSemPost call k v e who = let y = named_task call.request call.caller in apart-task_sem_post_to (task_at k y).waiting y call.compared k refl v
-apart-perform TaskQPost call k v e who = let y = named_task call.request call.caller in apart-task_q_post_to (task_at k y).waiting call.request y call.compared k refl v
-apart-perform SemPend call k v e who = apart-sem_pend (object_at k (argument call.request 0)).content call.request call.caller k (who refl)
-apart-perform QPend call k v e who = apart-q_pend (object_at k (argument call.request 0)).content call.request call.caller k (who refl)
-apart-perform FlagPend call k v e who = apart-flag_pend (object_at k (argument call.request 0)).content call.request call.caller k (who refl)
-apart-perform TaskSemPend call k v e who = apart-task_sem_pend_on (task_at k call.caller).count call.request call.caller k (who refl)
-apart-perform TaskQPend call k v e who = apart-task_q_pend_on (task_at k call.caller).messages call.request call.caller k (who refl)
-apart-perform SchedLock call k v e who = apart-lock k
-apart-perform SchedUnlock call k v e who = apart-unlock call.caller k
-apart-perform TimeGet call k v e who = tt
-apart-perform TimeDly call k v e who = apart-delay call.request call.caller k (who refl)
-apart-perform SemPendAbort call k v e who = apart-abort call.request call.compared k v
-apart-perform QPendAbort call k v e who = apart-abort call.request call.compared k v
-apart-perform FlagPendAbort call k v e who = apart-abort call.request call.compared k v
-apart-perform TaskSemPendAbort call k v e who = apart-task_abort waits_for_semaphore semaphore-waits call.request call.caller call.compared k v
-apart-perform TaskQPendAbort call k v e who = apart-task_abort waits_for_queue queue-waits call.request call.caller call.compared k v
-apart-perform SemDel call k v e who = apart-delete call.request call.compared k v
-apart-perform QDel call k v e who = apart-delete call.request call.compared k v
-apart-perform FlagDel call k v e who = apart-delete call.request call.compared k v
-apart-perform TimeDlyResume call k v e who = let y = named_task call.request call.caller in apart-resume (task_at k y).waiting y call.compared k refl v
-apart-perform _ call k v e who = absurd (false≢true e)
+apart-perform : (s : Service) (call : Call) (k : Kernel) → IsLinked k → program_serves s ≡ true → (is_post s ≡ false → call.caller ≢ 63) → (names_task s ≡ true → (task_at k (named_task call.request call.caller)).alive ≡ true) → Apart (perform s call k)
+apart-perform SemPost call k v e who lives = apart-sem_post (object_at k (argument call.request 0)).content call.request call.compared k v
+apart-perform QPost call k v e who lives = apart-q_post (object_at k (argument call.request 0)).content call.request call.compared k v
+apart-perform FlagPost call k v e who lives = apart-flag_post (object_at k (argument call.request 0)).content call.request call.compared k v
+apart-perform TaskSemPost call k v e who lives = let y = named_task call.request call.caller in apart-task_sem_post_to (task_at k y).waiting y call.compared k refl v
+apart-perform TaskQPost call k v e who lives = let y = named_task call.request call.caller in apart-task_q_post_to (task_at k y).waiting call.request y call.compared k refl v
+apart-perform SemPend call k v e who lives = apart-sem_pend (object_at k (argument call.request 0)).content call.request call.caller k (who refl)
+apart-perform QPend call k v e who lives = apart-q_pend (object_at k (argument call.request 0)).content call.request call.caller k (who refl)
+apart-perform FlagPend call k v e who lives = apart-flag_pend (object_at k (argument call.request 0)).content call.request call.caller k (who refl)
+apart-perform TaskSemPend call k v e who lives = apart-task_sem_pend_on (task_at k call.caller).count call.request call.caller k (who refl)
+apart-perform TaskQPend call k v e who lives = apart-task_q_pend_on (task_at k call.caller).messages call.request call.caller k (who refl)
+apart-perform SchedLock call k v e who lives = apart-lock k
+apart-perform SchedUnlock call k v e who lives = apart-unlock call.caller k
+apart-perform TimeGet call k v e who lives = tt
+apart-perform TimeDly call k v e who lives = apart-delay call.request call.caller k (who refl)
+apart-perform SemPendAbort call k v e who lives = apart-abort call.request call.compared k v
+apart-perform QPendAbort call k v e who lives = apart-abort call.request call.compared k v
+apart-perform FlagPendAbort call k v e who lives = apart-abort call.request call.compared k v
+apart-perform TaskSemPendAbort call k v e who lives = apart-task_abort waits_for_semaphore semaphore-waits call.request call.caller call.compared k v
+apart-perform TaskQPendAbort call k v e who lives = apart-task_abort waits_for_queue queue-waits call.request call.caller call.compared k v
+apart-perform SemDel call k v e who lives = apart-delete call.request call.compared k v
+apart-perform QDel call k v e who lives = apart-delete call.request call.compared k v
+apart-perform FlagDel call k v e who lives = apart-delete call.request call.compared k v
+apart-perform TimeDlyResume call k v e who lives = let y = named_task call.request call.caller in apart-resume (task_at k y).waiting y call.compared k refl v
+apart-perform TaskSuspend call k v e who lives = apart-task_suspend call.request call.caller k
+apart-perform TaskResume call k v e who lives = apart-task_resume call.request call.caller call.compared k v (lives refl)
+apart-perform _ call k v e who lives = absurd (false≢true e)
 
-apart-checked : (o : Option OsErr) (call : Call) (k : Kernel) → IsLinked k → program_serves call.request.service ≡ true → (is_post call.request.service ≡ false → call.caller ≢ 63) → Apart (after_checks o call k)
-apart-checked (Some err) call k v e who = tt
-apart-checked None call k v e who = apart-perform call.request.service call k v e who
+apart-checked : (o : Option OsErr) (call : Call) (k : Kernel) → call_error call.request call.caller k ≡ o → IsLinked k → program_serves call.request.service ≡ true → (is_post call.request.service ≡ false → call.caller ≢ 63) → Apart (after_checks o call k)
+apart-checked (Some err) call k c v e who = tt
+apart-checked None call k c v e who = apart-perform call.request.service call k v e who (λ n. named-alive call.request call.caller k n c)
 
 apart-served : (b : Bool) (call : Call) (k : Kernel) → IsLinked k → program_serves call.request.service ≡ b → (is_post call.request.service ≡ false → call.caller ≢ 63) → Apart (if b then after_checks (call_error call.request call.caller k) call k else refused k CallUnknown)
-apart-served true call k v e who = apart-checked (call_error call.request call.caller k) call k v e who
+apart-served true call k v e who = apart-checked (call_error call.request call.caller k) call k refl v e who
 apart-served false call k v e who = tt
 
 -- Half-made lists.

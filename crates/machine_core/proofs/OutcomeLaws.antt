@@ -1,12 +1,12 @@
 -- No service that is served answers with a table.
-use Rattle.std.specs.Prelude.{if◌then◌else◌, ◌==◌, ◌&&◌, ◌||◌, ◌-◌, ◌+◌, ◌^◌}
+use Rattle.std.specs.Prelude.{if◌then◌else◌, ◌==◌, ◌&&◌, ◌||◌, ◌-◌, ◌+◌, ◌^◌, nat_lt}
 use Rattle.std.proofs.Common.{◌≡◌, ℕ, zero, suc, List, [], ◌∷◌, length, refl, Bool, true, false, Option, Some, None}
 use Rattle.std.proofs.lemmas.Bool.{false≢true}
 use Rattle.kern_base.specs.declared.services.Service.{Service}
-use Rattle.kern_base.specs.declared.services.Service.TheVariants.{SemPost, QPost, FlagPost, TaskSemPost, TaskQPost, SemPend, QPend, FlagPend, TaskSemPend, TaskQPend, SchedLock, SchedUnlock, TimeGet, TimeDly, TimeDlyResume, SemPendAbort, QPendAbort, FlagPendAbort, TaskSemPendAbort, TaskQPendAbort, SemDel, QDel, FlagDel}
+use Rattle.kern_base.specs.declared.services.Service.TheVariants.{SemPost, QPost, FlagPost, TaskSemPost, TaskQPost, SemPend, QPend, FlagPend, TaskSemPend, TaskQPend, SchedLock, SchedUnlock, TimeGet, TimeDly, TimeDlyResume, SemPendAbort, QPendAbort, FlagPendAbort, TaskSemPendAbort, TaskQPendAbort, SemDel, QDel, FlagDel, TaskSuspend, TaskResume}
 use Rattle.kern_base.specs.declared.requests.Request.{Request}
 use Rattle.kern_base.specs.declared.errors.OsErr.{OsErr}
-use Rattle.kern_base.specs.declared.errors.OsErr.TheVariants.{SemOverflow, SchedLocked, SchedNotLocked, LockOverflow, PendAbortSelf, CallUnknown}
+use Rattle.kern_base.specs.declared.errors.OsErr.TheVariants.{SemOverflow, SchedLocked, SchedNotLocked, LockOverflow, PendAbortSelf, CallUnknown, Depth, TaskResumeSelf}
 use Rattle.kern_base.specs.declared.outcomes.Waiting.{Waiting}
 use Rattle.kern_base.specs.declared.outcomes.Waiting.TheVariants.{No, Delay, Obj, TaskSem, TaskQ, Multi, Signal}
 use Rattle.kern_model.specs.Call.{Call}
@@ -19,7 +19,7 @@ use Rattle.kern_model.specs.Options.{aborts_all, deletes_always, does_not_wait, 
 use Rattle.kern_model.specs.Queues.{q_pend, q_post, q_post_to, store_error, store_in, stored}
 use Rattle.kern_model.specs.TaskObjects.{task_abort, task_abort_of, waits_for_queue, waits_for_semaphore, task_q_pend_on, task_q_post_to, task_sem_pend_on, task_sem_post_to, task_store}
 use Rattle.kern_model.specs.Semaphores.{sem_post_to, sem_post, sem_pend}
-use Rattle.kern_model.specs.Tasks.{sched_lock, sched_unlock, unlocks}
+use Rattle.kern_model.specs.Tasks.{resumes, sched_lock, sched_unlock, suspends, task_resume, task_suspend, unlocks}
 use Rattle.kern_model.specs.Time.{delay_of, delays, resumes_delayed, time_dly}
 use Rattle.kern_model.specs.Waiters.{aborts, delete, deletes, pend_abort}
 use Rattle.served.specs.Served.{program_serves}
@@ -178,6 +178,29 @@ plain-deletes true xs o h k = refl
 plain-delete : (r : Request) (h : ℕ) (k : Kernel) → Plain (delete r h k)
 plain-delete r h k = plain-deletes (deletes_always (argument r 1)) (list_at k.pend (argument r 0)) (argument r 0) h k
 
+-- suspension
+
+plain-suspends : (own : Bool) (y : ℕ) (k : Kernel) → Plain (suspends own y k)
+plain-suspends true y k = tt
+plain-suspends false y k = refl
+
+plain-task_suspend : (r : Request) (x : ℕ) (k : Kernel) → Plain (task_suspend r x k)
+plain-task_suspend r x k =
+    let y = named_task r x in
+    let most = (task_at k y).suspended == nesting_limit in
+    let e = suspends (y == x) y k in
+    choice Plain ((y == x) && nat_lt 0 k.lock) (refused k SchedLocked) (if most then refused k Depth else e) refl (choice Plain most (refused k Depth) e refl (plain-suspends (y == x) y k))
+
+plain-resumes : (n y h : ℕ) (k : Kernel) → Plain (resumes n y h k)
+plain-resumes zero y h k = refl
+plain-resumes (suc n) y h k = refl
+
+plain-task_resume : (r : Request) (x h : ℕ) (k : Kernel) → Plain (task_resume r x h k)
+plain-task_resume r x h k =
+    let y = named_task r x in
+    let n = (task_at k y).suspended in
+    choice Plain (y == x) (refused k TaskResumeSelf) (resumes n y h k) refl (plain-resumes n y h k)
+
 -- each of them
 
 plain-perform : (s : Service) (call : Call) (k : Kernel) → program_serves s ≡ true → Plain (perform s call k)
@@ -204,6 +227,8 @@ plain-perform SemDel call k e = plain-delete call.request call.compared k
 plain-perform QDel call k e = plain-delete call.request call.compared k
 plain-perform FlagDel call k e = plain-delete call.request call.compared k
 plain-perform TimeDlyResume call k e = let y = named_task call.request call.caller in plain-resume (task_at k y).waiting y call.compared k
+plain-perform TaskSuspend call k e = plain-task_suspend call.request call.caller k
+plain-perform TaskResume call k e = plain-task_resume call.request call.caller call.compared k
 plain-perform _ call k e = absurd (false≢true e)
 
 plain-checked : (o : Option OsErr) (call : Call) (k : Kernel) → program_serves call.request.service ≡ true → Plain (after_checks o call k)

@@ -2,12 +2,12 @@
 use Rattle.std.proofs.Common.{◌≡◌, ℕ, zero, suc, List, [], ◌∷◌, refl, Bool, true, false, Option, Some, None, ap, sym, ◌∙◌, length}
 use Rattle.std.proofs.lemmas.Bool.{false≢true}
 use Rattle.std.proofs.Math.Seq.{map-set_same}
-use Rattle.std.specs.Prelude.{map, slice_index_or, if◌then◌else◌, ◌==◌, ◌&&◌, ◌||◌, ◌-◌, ◌+◌, ◌^◌}
+use Rattle.std.specs.Prelude.{map, slice_index_or, if◌then◌else◌, ◌==◌, ◌&&◌, ◌||◌, ◌-◌, ◌+◌, ◌^◌, nat_lt}
 use Rattle.kern_base.specs.declared.services.Service.{Service}
-use Rattle.kern_base.specs.declared.services.Service.TheVariants.{SemPost, QPost, FlagPost, TaskSemPost, TaskQPost, SemPend, QPend, FlagPend, TaskSemPend, TaskQPend, SchedLock, SchedUnlock, TimeGet, TimeDly, TimeDlyResume, SemPendAbort, QPendAbort, FlagPendAbort, TaskSemPendAbort, TaskQPendAbort, SemDel, QDel, FlagDel}
+use Rattle.kern_base.specs.declared.services.Service.TheVariants.{SemPost, QPost, FlagPost, TaskSemPost, TaskQPost, SemPend, QPend, FlagPend, TaskSemPend, TaskQPend, SchedLock, SchedUnlock, TimeGet, TimeDly, TimeDlyResume, SemPendAbort, QPendAbort, FlagPendAbort, TaskSemPendAbort, TaskQPendAbort, SemDel, QDel, FlagDel, TaskSuspend, TaskResume}
 use Rattle.kern_base.specs.declared.requests.Request.{Request}
 use Rattle.kern_base.specs.declared.errors.OsErr.{OsErr}
-use Rattle.kern_base.specs.declared.errors.OsErr.TheVariants.{NoError, SemOverflow, SchedLocked, SchedNotLocked, LockOverflow, ObjectDeleted, PendAbort, PendAbortSelf, CallUnknown}
+use Rattle.kern_base.specs.declared.errors.OsErr.TheVariants.{NoError, SemOverflow, SchedLocked, SchedNotLocked, LockOverflow, ObjectDeleted, PendAbort, PendAbortSelf, CallUnknown, Depth, TaskResumeSelf}
 use Rattle.kern_base.specs.declared.outcomes.Waiting.{Waiting}
 use Rattle.kern_base.specs.declared.outcomes.Waiting.TheVariants.{No, Delay, Obj, TaskSem, TaskQ, Multi, Signal}
 use Rattle.kern_base.specs.declared.outcomes.Finished.{Finished}
@@ -23,7 +23,7 @@ use Rattle.kern_model.specs.Options.{aborts_all, deletes_always, does_not_wait, 
 use Rattle.kern_model.specs.Queues.{q_pend, q_post, q_post_to, store_error, store_in, stored}
 use Rattle.kern_model.specs.TaskObjects.{task_abort, task_abort_of, waits_for_queue, waits_for_semaphore, task_q_pend_on, task_q_post_to, task_sem_pend_on, task_sem_post_to, task_store}
 use Rattle.kern_model.specs.Semaphores.{sem_post_to, sem_post, sem_pend}
-use Rattle.kern_model.specs.Tasks.{sched_lock, sched_unlock, unlocks}
+use Rattle.kern_model.specs.Tasks.{resumes, sched_lock, sched_unlock, suspends, task_resume, task_suspend, unlocks}
 use Rattle.kern_model.specs.Time.{delay_of, delays, resumes_delayed, time_dly}
 use Rattle.kern_model.specs.Waiters.{aborts, delete, deletes, pend_abort, without_object}
 use Rattle.served.specs.Served.{program_serves}
@@ -243,6 +243,26 @@ keeps-deletes true xs o h k =
 keeps-delete : (r : Request) (h : ℕ) (k : Kernel) → Keeps k (delete r h k)
 keeps-delete r h k = keeps-deletes (deletes_always (argument r 1)) (list_at k.pend (argument r 0)) (argument r 0) h k
 
+-- suspension
+
+keeps-task_suspend : (r : Request) (x : ℕ) (k : Kernel) → Keeps k (task_suspend r x k)
+keeps-task_suspend r x k =
+    let y = named_task r x in
+    let most = (task_at k y).suspended == nesting_limit in
+    let e = suspends (y == x) y k in
+    choice (Keeps k) ((y == x) && nat_lt 0 k.lock) (refused k SchedLocked) (if most then refused k Depth else e) (same k)
+    (choice (Keeps k) most (refused k Depth) e (same k) (keeps-fields k e.kernel refl))
+
+keeps-resumes : (n y h : ℕ) (k : Kernel) → Keeps k (resumes n y h k)
+keeps-resumes zero y h k = same k
+keeps-resumes (suc n) y h k = keeps-fields k (resumes (suc n) y h k).kernel refl
+
+keeps-task_resume : (r : Request) (x h : ℕ) (k : Kernel) → Keeps k (task_resume r x h k)
+keeps-task_resume r x h k =
+    let y = named_task r x in
+    let n = (task_at k y).suspended in
+    choice (Keeps k) (y == x) (refused k TaskResumeSelf) (resumes n y h k) (same k) (keeps-resumes n y h k)
+
 -- each of them
 
 keeps-perform : (s : Service) (call : Call) (k : Kernel) → program_serves s ≡ true → Keeps k (perform s call k)
@@ -269,6 +289,8 @@ keeps-perform SemDel call k e = keeps-delete call.request call.compared k
 keeps-perform QDel call k e = keeps-delete call.request call.compared k
 keeps-perform FlagDel call k e = keeps-delete call.request call.compared k
 keeps-perform TimeDlyResume call k e = let y = named_task call.request call.caller in keeps-resume (task_at k y).waiting y call.compared k
+keeps-perform TaskSuspend call k e = keeps-task_suspend call.request call.caller k
+keeps-perform TaskResume call k e = keeps-task_resume call.request call.caller call.compared k
 keeps-perform _ call k e = absurd (false≢true e)
 
 keeps-checked : (o : Option OsErr) (call : Call) (k : Kernel) → program_serves call.request.service ≡ true → Keeps k (after_checks o call k)

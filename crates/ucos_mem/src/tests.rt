@@ -6,6 +6,7 @@ mod generated;
 mod interrupts;
 mod looks;
 mod objects;
+mod suspension;
 
 use outside::{MemSink, MemSource};
 use std::alloc::{AllocError, Global};
