@@ -177,12 +177,14 @@ const OVERFLOW_TO_2: &str = "0 0 start a
 fn posts_are_performed_when_they_are_taken(rt: HostRuntime) -> Result<(), Fail> {
     let alloc = rt.alloc();
     let post = handler_with(alloc, "task 6, 3\n")?;
+    let (status, held) = answer(alloc, &Given::new("run deferred 11", &post))?;
+    assert_eq!(rt; status, Status::Done);
+    assert_eq!(rt; held.as_slice(), POST_TO_11.as_bytes());
     for (words, text, written) in [
-        ("run deferred 11", post.as_slice(), POST_TO_11),
-        ("run deferred 3", BURST.as_bytes(), BURST_TO_3),
-        ("run deferred 2", OVERFLOW.as_bytes(), OVERFLOW_TO_2),
+        ("run deferred 3", BURST, BURST_TO_3),
+        ("run deferred 2", OVERFLOW, OVERFLOW_TO_2),
     ] {
-        let (status, held) = answer(alloc, &Given::new(words, text))?;
+        let (status, held) = answer(alloc, &Given::new(words, text.as_bytes()))?;
         assert_eq!(rt; status, Status::Done, "{words}");
         assert_eq!(rt; held.as_slice(), written.as_bytes(), "{words}");
     }
