@@ -92,7 +92,12 @@ impl Records {
     }
 
     // The task that the call names is suspended once more, or once less.
-    pub(crate) fn move_task(&mut self, request: &Request, seen: &Around, decision: &Decision) -> Outcome
+    pub(crate) fn move_task(
+        &mut self,
+        request: &Request,
+        seen: &Around,
+        decision: &Decision,
+    ) -> Outcome
         requires decided { decision.now ≡ decision_of request.now seen.now self.old.state }
         requires moves { moves_task request.now.service decision.now ≡ true }
         requires few { (x : ℕ) → (task_at self.old.state x).suspended ≤ nesting_limit }
