@@ -1,4 +1,5 @@
 pub mod RowLaws
+pub mod PlacingLaws
 pub mod SaidForms
 pub mod SaidLines
 pub mod LineLaws

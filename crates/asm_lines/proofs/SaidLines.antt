@@ -35,7 +35,7 @@ module _ (text : List ℕ) where
   kept_by ColonSign line start len = refl
   kept_by End line start len = refl
 
-  kept_said : (ts : List Token) → pieces_said text (map kept_of ts) ≡ map (piece_of text) ts
+  pub kept_said : (ts : List Token) → pieces_said text (map kept_of ts) ≡ map (piece_of text) ts
   kept_said [] = refl
   kept_said (t ∷ ts) = ap (λ p. p ∷ pieces_said text (map kept_of ts)) (kept_by t.kind t.line t.start t.len) ∙ ap (λ ps. piece_of text t ∷ ps) (kept_said ts)
 

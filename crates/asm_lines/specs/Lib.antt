@@ -10,3 +10,4 @@ pub mod Lines
 pub mod Kept
 pub mod KeptForms
 pub mod KeptLines
+pub mod Placing

@@ -6,6 +6,7 @@ mod forms;
 mod lines;
 mod mnemonics;
 mod pieces;
+mod placing;
 mod registers;
 mod spellings;
 mod statements;
@@ -18,5 +19,6 @@ pub use mnemonics::{
     AloneOp, BranchOp, ImmediateOp, RegisterOp, Section, ShiftOp, StoreOp, UpperOp, jump_mnemonic,
 };
 pub use pieces::{Operand, Piece, Span, make_piece, spelling};
+pub use placing::placing_lines;
 pub use statements::{Line, Statement};
 pub use words::settings;

@@ -113,8 +113,8 @@ fn is_inject(statement: &Statement) -> bool
     matches!(statement, Statement::Inject)
 }
 
-// Makes the pieces of some tokens in place of the ones that were there.
-fn refill(pieces: &mut Vec<Piece>, tokens: &[Token]) -> Result<(), AllocError>
+/// Makes the pieces of some tokens in place of the ones that were there.
+pub fn refill(pieces: &mut Vec<Piece>, tokens: &[Token]) -> Result<(), AllocError>
     ensures { OnOk result (pieces.new.items ≡ map kept_of tokens.now) }
 {
     pieces.clear();
@@ -124,8 +124,8 @@ fn refill(pieces: &mut Vec<Piece>, tokens: &[Token]) -> Result<(), AllocError>
     Ok(())
 }
 
-// Where the line ends that has a token at a place: at its end token, or at the end of the tokens.
-fn row_end(tokens: &[Token], at: usize) -> usize
+/// Where the line ends that has a token at a place: at its end token, or at the end of the tokens.
+pub fn row_end(tokens: &[Token], at: usize) -> usize
     requires { at ≤ length tokens.now }
     ensures value { result ≡ at + prefix_len is_before_end (drop at tokens.now) }
     ensures within { result ≤ length tokens.now }

@@ -5,3 +5,4 @@ pub mod NameSteps
 pub mod Operands
 pub mod LinePlacesView
 pub mod NamesView
+pub mod Symbols

@@ -5,6 +5,7 @@ mod line_places;
 mod names;
 mod operands;
 mod places;
+mod symbols;
 
 pub use line_places::LinePlaces;
 pub use names::{Names, counted, definition_of, meaning, names_of};
@@ -13,3 +14,4 @@ pub use operands::{
     word_of,
 };
 pub use places::{Counts, Definition, Meaning, NO_COUNTS, NO_PLACE, Place};
+pub use symbols::define_symbols;

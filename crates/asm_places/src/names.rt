@@ -16,8 +16,8 @@ use std::alloc::{AllocError, Global};
 /// The names of a text with their first definitions, in the order of these.
 pub type Names<'a> = IndexMap<&'a [u8], Definition>;
 
-// Defines a name that is not defined yet.
-fn define<'a>(
+/// Defines a name that is not defined yet.
+pub fn define<'a>(
     names: &mut Names<'a>,
     name: &'a [u8],
     definition: Definition,

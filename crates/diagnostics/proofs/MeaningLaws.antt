@@ -5,7 +5,8 @@ use Rattle.std.specs.List.{list_all}
 use Rattle.std.specs.Str.{bytes_eq}
 use Rattle.std.specs.Fmt.{digits}
 use Rattle.program_model.specs.declared.causes.CaseCause.{CaseCause}
-use Rattle.program_model.specs.declared.causes.CaseCause.TheVariants.{BadByte, NumberTooLarge, OfText, OfImage, OfInjection}
+use Rattle.program_model.specs.declared.causes.CaseCause.TheVariants.{OfExecutable, BadByte, NumberTooLarge, OfText, OfImage, OfInjection}
+use Rattle.elf_reader.specs.declared.causes.ElfCause.TheVariants as executable
 use Rattle.asm_causes.specs.declared.causes.AsmCause.TheVariants as asm
 use Rattle.app_image.specs.declared.causes.ImageCause.TheVariants as image
 use Rattle.inject_list.specs.declared.causes.InjectCause.TheVariants as inject
@@ -33,6 +34,11 @@ meaning_is_short name = short_in meanings name refl
 -- each cause by its name
 pub has_meaning : (cause : CaseCause) → HasMeaning cause
 unfolding digits meanings
+has_meaning (OfExecutable executable.Header) = omega arith
+has_meaning (OfExecutable executable.Range) = omega arith
+has_meaning (OfExecutable executable.Place) = omega arith
+has_meaning (OfExecutable executable.Overlap) = omega arith
+has_meaning (OfExecutable executable.SymbolTable) = omega arith
 has_meaning BadByte = omega arith
 has_meaning NumberTooLarge = omega arith
 has_meaning (OfText asm.UnknownStatement) = omega arith

@@ -8,7 +8,8 @@ use Rattle.std.proofs.lemmas.Str.Parse.{digit_from_value}
 use Rattle.std.specs.Fmt.{digits}
 use Rattle.std.specs.Str.Parse.{AllDigits}
 use Rattle.program_model.specs.declared.causes.CaseCause.{CaseCause}
-use Rattle.program_model.specs.declared.causes.CaseCause.TheVariants.{BadByte, NumberTooLarge, OfText, OfImage, OfInjection}
+use Rattle.program_model.specs.declared.causes.CaseCause.TheVariants.{OfExecutable, BadByte, NumberTooLarge, OfText, OfImage, OfInjection}
+use Rattle.elf_reader.specs.declared.causes.ElfCause.TheVariants as executable
 use Rattle.asm_causes.specs.declared.causes.AsmCause.TheVariants as asm
 use Rattle.app_image.specs.declared.causes.ImageCause.TheVariants as image
 use Rattle.inject_list.specs.declared.causes.InjectCause.TheVariants as inject
@@ -45,6 +46,11 @@ word_ends bytes k within below e =
 -- the name of a cause before a line feed is a word
 name_word : (cause : CaseCause) → word (letter cause ++ (decimal (number cause) ++ codes "\n")) ≡ cause_name cause
 unfolding digits
+name_word (OfExecutable executable.Header) = refl
+name_word (OfExecutable executable.Range) = refl
+name_word (OfExecutable executable.Place) = refl
+name_word (OfExecutable executable.Overlap) = refl
+name_word (OfExecutable executable.SymbolTable) = refl
 name_word BadByte = refl
 name_word NumberTooLarge = refl
 name_word (OfText asm.UnknownStatement) = refl

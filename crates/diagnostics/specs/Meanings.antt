@@ -6,6 +6,11 @@ use Rattle.std.specs.Borrow.{Bor}
 -- the causes by their names, each with its meaning
 unfoldable pub meanings : List (List ℕ × List ℕ)
 meanings =
+    (codes "E1", codes "no header of a 32-bit little-endian executable for RISC-V, or one whose tables have entries of another size") ∷
+    (codes "E2", codes "a table, a segment or a section of the executable ends past the input") ∷
+    (codes "E3", codes "a segment has more bytes in the file than in memory, or lies neither wholly in the code nor wholly in RAM") ∷
+    (codes "E4", codes "two segments of the executable overlap") ∷
+    (codes "E5", codes "a symbol table of another form, or without strings, or with a name that has no end") ∷
     (codes "L1", codes "a byte that begins no token, or a letter directly behind a number") ∷
     (codes "L2", codes "a number outside -2,147,483,648 to 4,294,967,295") ∷
     (codes "A1", codes "no mnemonic, pseudo-instruction or directive has this name") ∷

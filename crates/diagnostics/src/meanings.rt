@@ -3,7 +3,24 @@
 ghost use Rattle.std.specs.Prelude.{◌≡◌, ◌≤◌, length, map};
 ghost use Rattle.diagnostics.specs.Meanings.{meaning, meaning_in, row_of};
 
-static MEANINGS: [(&[u8], &[u8]); 38] = [
+static MEANINGS: [(&[u8], &[u8]); 43] = [
+    (
+        b"E1",
+        b"no header of a 32-bit little-endian executable for RISC-V, or one whose tables have entries of another size",
+    ),
+    (
+        b"E2",
+        b"a table, a segment or a section of the executable ends past the input",
+    ),
+    (
+        b"E3",
+        b"a segment has more bytes in the file than in memory, or lies neither wholly in the code nor wholly in RAM",
+    ),
+    (b"E4", b"two segments of the executable overlap"),
+    (
+        b"E5",
+        b"a symbol table of another form, or without strings, or with a name that has no end",
+    ),
     (
         b"L1",
         b"a byte that begins no token, or a letter directly behind a number",

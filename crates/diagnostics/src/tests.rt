@@ -13,6 +13,10 @@ fn a_refusal_is_told_with_its_place_and_meaning(rt: HostRuntime) -> Result<(), F
         ),
         ("refused 0 I1\n", "I1: no task is declared\n"),
         (
+            "refused 0 E4\n",
+            "E4: two segments of the executable overlap\n",
+        ),
+        (
             "refused 4194304 A10\n",
             "line 4194304: A10: more than 16,384 words of code\n",
         ),

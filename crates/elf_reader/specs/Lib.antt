@@ -4,3 +4,5 @@ pub mod Cells
 pub mod Symbols
 pub mod Known
 pub mod Executable
+pub mod CauseNumbers
+pub mod Within

@@ -1,6 +1,7 @@
 // Why a case is refused.
 
 use app_image::ImageCause;
+use elf_reader::ElfCause;
 use inject_list::InjectCause;
 use rv32_asm::AsmCause;
 
@@ -8,6 +9,8 @@ use rv32_asm::AsmCause;
 /// decides.
 #[derive(Clone, Copy, Debug, PartialEq, Eq)]
 pub enum CaseCause {
+    /// E1 to E5: the executable is refused.
+    OfExecutable(ElfCause),
     /// L1: a byte that begins no token.
     BadByte,
     /// L2: a number out of range.

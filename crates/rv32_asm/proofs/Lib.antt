@@ -13,5 +13,7 @@ pub mod MadeServices
 pub mod MadeNames
 pub mod Made
 pub mod StepLaws
+pub mod DeclaredLaws
+pub mod MadeDeclared
 pub mod SmallLaws
 mod Worked

@@ -83,7 +83,7 @@ object_more raw o =
 
 module _ (names : Names) where
   -- what a line defines first is no name of a service
-  abbrev DefinesNoService : Type 0
+  abbrev pub DefinesNoService : Type 0
   DefinesNoService = (name : List ℕ) (line : ℕ) → first_line (names name) ≡ Some line → is_service_name name ≡ false
 
   -- a free name that one of so many lines defines first
@@ -159,11 +159,11 @@ module _ (names : Names) where
     new_declared services c _ form long again = tt
 
     -- the line behind some has names that earlier lines declare
-    abbrev HasNames : Counts → Place → RawRecord → Type 0
+    abbrev pub HasNames : Counts → Place → RawRecord → Type 0
     HasNames c p raw = AreDeclared c.lines (image_names raw)
 
     -- a line without a cause keeps the names free and distinct
-    line_kept : DefinesNoService → Keeps names places (λ l. DeclaresName l.statement) HasNames
+    pub line_kept : DefinesNoService → Keeps names places (λ l. DeclaresName l.statement) HasNames
     line_kept services c p raw l free form h =
         let twice = or_parts (label_again names c l.label) (name_again names c (name_in l.statement)) free.twice in
         let new = new_declared services c l.statement form free.name twice.1 in
@@ -175,7 +175,7 @@ pub record HasFreeNames (raw : RawRecord) : Type 0 where
   pub names : All IsFreeName (names_in raw.tasks raw.objects)
   pub distinct : AreDistinct (names_in raw.tasks raw.objects)
 
-has_free_names : (names : Names) (raw : RawRecord) (lines : ℕ) → AreDeclared names lines (image_names raw) → HasFreeNames raw
+pub has_free_names : (names : Names) (raw : RawRecord) (lines : ℕ) → AreDeclared names lines (image_names raw) → HasFreeNames raw
 has_free_names names raw lines h = record {
   names = All-from_recursion IsFreeName (image_names raw) (all_weaker (IsDeclared names lines) IsFreeName (λ name d. d.free) (image_names raw) h.each);
   distinct = pairs_apart (image_names raw) h.apart;

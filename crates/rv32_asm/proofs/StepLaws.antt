@@ -33,14 +33,14 @@ use Rattle.asm_places.specs.Place.{Place}
 use Rattle.asm_causes.specs.declared.causes.AsmCause.{AsmCause}
 
 -- one more number at the end
-range_more : (n : ℕ) → range_with_len 0 (n + 1) ≡ range_with_len 0 n ++ n ∷ []
+pub range_more : (n : ℕ) → range_with_len 0 (n + 1) ≡ range_with_len 0 n ++ n ∷ []
 range_more n = sym (map_same (range_with_len 0 (n + 1))) ∙ (map-range_with_len_more (λ k. k) 0 n n (omega arith) ∙ ap (λ l. l ++ n ∷ []) (map_same (range_with_len 0 n)))
   where
     map_same : (xs : List ℕ) → map (λ k. k) xs ≡ xs
     map_same [] = refl
     map_same (x ∷ xs) = ap (λ l. x ∷ l) (map_same xs)
 
-flat_more : {T : Type 0} (f : ℕ → List T) (n : ℕ) → flat_map f (range_with_len 0 (n + 1)) ≡ flat_map f (range_with_len 0 n) ++ f n
+pub flat_more : {T : Type 0} (f : ℕ → List T) (n : ℕ) → flat_map f (range_with_len 0 (n + 1)) ≡ flat_map f (range_with_len 0 n) ++ f n
 flat_more f n = ap (flat_map f) (range_more n) ∙ (flat_map-append f (range_with_len 0 n) (n ∷ []) ∙ ap (λ l. flat_map f (range_with_len 0 n) ++ l) (append-nil (f n)))
 
 sum_more : (f : ℕ → ℕ) (n : ℕ) → sum_by f (range_with_len 0 (n + 1)) ≡ sum_by f (range_with_len 0 n) + f n
@@ -63,7 +63,7 @@ counted_by (Object n kind values) lines tasks objects vectors = refl
 counted_by (Vector values) lines tasks objects vectors = refl
 counted_by s lines tasks objects vectors = refl
 
-counts_more : (lines : List Line) (k : ℕ) → k < length lines → counted (line_at lines k).statement (counts_before lines k) ≡ counts_before lines (k + 1)
+pub counts_more : (lines : List Line) (k : ℕ) → k < length lines → counted (line_at lines k).statement (counts_before lines k) ≡ counts_before lines (k + 1)
 counts_more lines k h =
     let s = (line_at lines k).statement in
     counted_by s k (count_of is_task (take k lines)) (count_of is_object (take k lines)) (count_of is_vector (take k lines))
@@ -109,11 +109,11 @@ turned_by : (s : Statement) (section : Section) (code ram : ℕ) → (let y : Pl
 turned_by (Sections to) section code ram = refl
 turned_by s section code ram = refl
 
-same_raw : (a a' : List TaskDef) (b b' : List ObjDef) (c c' : List VectorDef) (d d' : List ConfigLine) (e e' f f' : List ℕ) → a ≡ a' → b ≡ b' → c ≡ c' → d ≡ d' → e ≡ e' → f ≡ f'
+pub same_raw : (a a' : List TaskDef) (b b' : List ObjDef) (c c' : List VectorDef) (d d' : List ConfigLine) (e e' f f' : List ℕ) → a ≡ a' → b ≡ b' → c ≡ c' → d ≡ d' → e ≡ e' → f ≡ f'
     → (let x : RawRecord = record { tasks = a; objects = b; vectors = c; config = d; code = e; ram = f } in let y : RawRecord = record { tasks = a'; objects = b'; vectors = c'; config = d'; code = e'; ram = f' } in x ≡ y)
 same_raw a a' b b' c c' d d' e e' f f' p q r s t u = rw (p, q, r, s, t, u) refl
 
-none : {T : Type 0} (xs : List T) → xs ≡ xs ++ []
+pub none : {T : Type 0} (xs : List T) → xs ≡ xs ++ []
 none xs = sym (append-nil xs)
 
 -- no words to a section
@@ -141,7 +141,7 @@ words_only Ram ws raw = same_raw _ _ _ _ _ _ _ _ _ _ _ _ (none raw.tasks) (none 
 
 module _ (names : Names) (places : List Place) where
   -- what a statement adds to an image
-  abbrev added : ℕ → Place → Statement → RawRecord → RawRecord
+  abbrev pub added : ℕ → Place → Statement → RawRecord → RawRecord
   added line p s raw = record {
     tasks = raw.tasks ++ tasks_given names places line s;
     objects = raw.objects ++ objects_given names places line s;
@@ -151,7 +151,7 @@ module _ (names : Names) (places : List Place) where
     ram = raw.ram ++ words_given names places Ram p s;
   }
 
-  added_by : (line : ℕ) (p : Place) (s : Statement) (raw : RawRecord) → with_statement names places line p s raw ≡ added line p s raw
+  pub added_by : (line : ℕ) (p : Place) (s : Statement) (raw : RawRecord) → with_statement names places line p s raw ≡ added line p s raw
   added_by line p (Task n values) raw =
       same_raw _ _ _ _ _ _ _ _ _ _ _ _ refl (none raw.objects) (none raw.vectors) (none raw.config) (no_words raw.code (is_in Code p.section)) (no_words raw.ram (is_in Ram p.section))
   added_by line p (Object n kind values) raw =
@@ -175,7 +175,7 @@ module _ (lines : List Line) where
       ∙ (ap (λ c. defines (counts_before lines k) here ++ all_defined c (drop (k + 1) lines)) (counts_more lines k inside)
       ∙ ap (λ l. defines (counts_before lines k) here ++ l) (names_from m (k + 1) (omega (arith, e))))
 
-  same_names : names_of lines ≡ all_names lines
+  pub same_names : names_of lines ≡ all_names lines
   same_names = ap (λ l. first_of (defined_at_start ++ l)) (names_from (length lines) 0 (omega arith))
 
   module _ (names : Names) where

@@ -84,8 +84,8 @@ fn vector_of(values: [u32; 4], line: u32) -> VectorDef
     }
 }
 
-// Adds what a line gives that begins at a place and has no cause.
-fn add_line(
+/// Adds what a line gives that begins at a place and has no cause.
+pub fn add_line(
     draft: &mut Draft,
     text: &[u8],
     names: &Names,

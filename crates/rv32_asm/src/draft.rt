@@ -18,7 +18,7 @@ pub struct Draft {
 }
 
 impl Draft {
-    ghost use Rattle.rv32_asm.specs.DraftView.{raw_of};
+    ghost use Rattle.rv32_asm.specs.DraftView.{image_of_words, raw_of};
     ghost use Rattle.rv32_asm.specs.Steps.{empty_image};
 
     pub fn new(alloc: Global) -> Draft
@@ -31,6 +31,23 @@ impl Draft {
             config: Vec::new(alloc),
             code: Vec::new(alloc),
             ram: Vec::new(alloc),
+            words: Vec::new(alloc),
+        }
+    }
+
+    /// A draft that has these words of code and of RAM.
+    pub fn with_words(alloc: Global, code: Vec<u32>, ram: Vec<u32>) -> Draft
+        ensures image { raw_of result ≡ image_of_words code.items ram.items }
+        ensures code { result.code.items ≡ code.items }
+        ensures ram { result.ram.items ≡ ram.items }
+    {
+        Draft {
+            tasks: Vec::new(alloc),
+            objects: Vec::new(alloc),
+            vectors: Vec::new(alloc),
+            config: Vec::new(alloc),
+            code,
+            ram,
             words: Vec::new(alloc),
         }
     }

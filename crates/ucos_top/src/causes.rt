@@ -3,10 +3,12 @@
 ghost use Rattle.std.specs.Prelude.{◌≡◌, ◌++◌, ◌≤◌, ◌+◌, [], ◌∷◌, length, decimal};
 ghost use Rattle.arrayvec.specs.ArrayVec.{array_vec_len};
 ghost use Rattle.asm_causes.specs.Refusal.{cause_number};
+ghost use Rattle.elf_reader.specs.CauseNumbers as executable;
 ghost use Rattle.inject_list.specs.Reading as inject;
 ghost use Rattle.program_model.specs.Refusals.{letter, number, refusal_line};
 
 use arrayvec::ArrayVec;
+use elf_reader::ElfCause;
 use inject_list::InjectCause;
 use itoa::Buffer;
 use program_model::CaseCause;
@@ -62,6 +64,7 @@ fn letter(cause: CaseCause) -> u8
     ensures { result ∷ [] ≡ letter cause }
 {
     match cause {
+        CaseCause::OfExecutable(_) => b'E',
         CaseCause::BadByte | CaseCause::NumberTooLarge => b'L',
         CaseCause::OfText(_) => b'A',
         CaseCause::OfImage(_) => b'I',
@@ -74,11 +77,25 @@ fn number(cause: CaseCause) -> u32
     ensures { result ≡ number cause }
 {
     match cause {
+        CaseCause::OfExecutable(cause) => executable_number(cause),
         CaseCause::BadByte => 1,
         CaseCause::NumberTooLarge => 2,
         CaseCause::OfText(cause) => text_number(cause),
         CaseCause::OfImage(cause) => u32::from(cause.number()),
         CaseCause::OfInjection(cause) => injection_number(cause),
+    }
+}
+
+// The number of a cause of an executable, 1 to 5.
+fn executable_number(cause: ElfCause) -> u32
+    ensures { result ≡ executable.cause_number cause }
+{
+    match cause {
+        ElfCause::Header => 1,
+        ElfCause::Range => 2,
+        ElfCause::Place => 3,
+        ElfCause::Overlap => 4,
+        ElfCause::SymbolTable => 5,
     }
 }
 

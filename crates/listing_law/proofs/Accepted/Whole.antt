@@ -9,7 +9,7 @@ use Rattle.rv32_asm.specs.Steps.{empty_image}
 use Rattle.rv32_asm.specs.Assembled.{assembled}
 use Rattle.rv32_asm.specs.Assembly as asm
 use Rattle.inject_list.specs.Lists.{no_injections}
-use Rattle.program_model.specs.Case.{Accepts, with_tokens, is_image, checked_case, assembled_case, text_case, image_case, case_of}
+use Rattle.program_model.specs.Case.{Accepts, with_tokens, is_image, is_executable, checked_case, assembled_case, text_case, image_case, executable_case, case_of}
 use Rattle.rv32_listing.specs.Disassembly.{disassembly}
 use Rattle.listing_law.specs.Law.{AssemblesBack, EveryListingAssemblesBack}
 use Rattle.listing_law.proofs.Tokens.Parts.{flat}
@@ -26,6 +26,11 @@ use Rattle.listing_law.proofs.Accepted.Lengths.{listing_short}
 no_image : (image : ImageRecord) → is_image (disassembly image) ≡ false
 unfolding disassembly
 no_image image = refl
+
+-- nor an executable
+no_executable : (image : ImageRecord) → is_executable (disassembly image) ≡ false
+unfolding disassembly
+no_executable image = refl
 
 drop_whole : (ts : List Token) → drop (length ts) ts ≡ []
 drop_whole [] = refl
@@ -58,8 +63,9 @@ module _ (image : ImageRecord) (v : IsValidImage image) (w : HasWords image) whe
   accepted : case_of (disassembly image) ≡ Accepts lined no_injections
   unfolding case_of
   accepted =
-      ap (λ b. if b then image_case (disassembly image) else text_case (disassembly image)) (no_image image)
-      ∙ (ap text_case (sym (listed_text image)) ∙ text_accepted)
+      ap (λ b. if b then image_case (disassembly image) else (if is_executable (disassembly image) then executable_case (disassembly image) else text_case (disassembly image))) (no_image image)
+      ∙ (ap (λ b. if b then executable_case (disassembly image) else text_case (disassembly image)) (no_executable image)
+      ∙ ap text_case (sym (listed_text image)) ∙ text_accepted)
 
   pub assembles_back : AssemblesBack image
   assembles_back = record {
