@@ -2,6 +2,7 @@ mod both;
 mod cases;
 mod deferred;
 mod ends;
+mod executables;
 mod generated;
 mod interrupts;
 mod looks;
