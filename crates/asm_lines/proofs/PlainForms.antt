@@ -7,12 +7,12 @@ use Rattle.asm_lines.specs.Pieces.{operands_among}
 use Rattle.asm_lines.specs.Registers.{register_number}
 use Rattle.asm_lines.specs.Words.{service_number}
 use Rattle.asm_lines.specs.Forms.{register_form, immediate_form, shift_form, load_form, store_form, branch_form, upper_form, jump_form, alone_form, of_two, of_target, two_form, target_form, go_form, return_form, load_constant_form, load_value_form, service_form, pseudo_form, are_values, vector_form, config_form, form, zero_register, link_register}
-use Rattle.asm_lines.specs.declared.mnemonics.RegisterOp.{RegisterOp}
-use Rattle.asm_lines.specs.declared.mnemonics.ImmediateOp.{ImmediateOp}
-use Rattle.asm_lines.specs.declared.mnemonics.ShiftOp.{ShiftOp}
-use Rattle.asm_lines.specs.declared.mnemonics.StoreOp.{StoreOp}
-use Rattle.asm_lines.specs.declared.mnemonics.BranchOp.{BranchOp}
-use Rattle.asm_lines.specs.declared.mnemonics.UpperOp.{UpperOp}
+use Rattle.rv32_isa.specs.declared.mnemonics.RegisterOp.{RegisterOp}
+use Rattle.rv32_isa.specs.declared.mnemonics.ImmediateOp.{ImmediateOp}
+use Rattle.rv32_isa.specs.declared.mnemonics.ShiftOp.{ShiftOp}
+use Rattle.rv32_isa.specs.declared.mnemonics.StoreOp.{StoreOp}
+use Rattle.rv32_isa.specs.declared.mnemonics.BranchOp.{BranchOp}
+use Rattle.rv32_isa.specs.declared.mnemonics.UpperOp.{UpperOp}
 use Rattle.asm_lines.specs.declared.mnemonics.Pseudo.{Pseudo}
 use Rattle.asm_lines.specs.declared.mnemonics.Pseudo.TheVariants.{Nop, Mv, Not, Neg, Seqz, Snez, Beqz, Bnez, J, Call, Jr, Ret, Li, La, Os}
 use Rattle.asm_lines.specs.declared.mnemonics.Head.{Head}

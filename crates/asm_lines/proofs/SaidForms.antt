@@ -17,12 +17,12 @@ use Rattle.asm_lines.specs.declared.pieces.Operand.{Operand}
 use Rattle.asm_lines.specs.declared.pieces.Operand.TheVariants.{Number, Named}
 use Rattle.asm_lines.specs.declared.pieces.Piece.{Piece}
 use Rattle.asm_lines.specs.declared.pieces.Piece.TheVariants.{Is, Comma, Open, Close}
-use Rattle.asm_lines.specs.declared.mnemonics.RegisterOp.{RegisterOp}
-use Rattle.asm_lines.specs.declared.mnemonics.ImmediateOp.{ImmediateOp}
-use Rattle.asm_lines.specs.declared.mnemonics.ShiftOp.{ShiftOp}
-use Rattle.asm_lines.specs.declared.mnemonics.StoreOp.{StoreOp}
-use Rattle.asm_lines.specs.declared.mnemonics.BranchOp.{BranchOp}
-use Rattle.asm_lines.specs.declared.mnemonics.UpperOp.{UpperOp}
+use Rattle.rv32_isa.specs.declared.mnemonics.RegisterOp.{RegisterOp}
+use Rattle.rv32_isa.specs.declared.mnemonics.ImmediateOp.{ImmediateOp}
+use Rattle.rv32_isa.specs.declared.mnemonics.ShiftOp.{ShiftOp}
+use Rattle.rv32_isa.specs.declared.mnemonics.StoreOp.{StoreOp}
+use Rattle.rv32_isa.specs.declared.mnemonics.BranchOp.{BranchOp}
+use Rattle.rv32_isa.specs.declared.mnemonics.UpperOp.{UpperOp}
 use Rattle.asm_lines.specs.declared.mnemonics.Pseudo.{Pseudo}
 use Rattle.asm_lines.specs.declared.mnemonics.Pseudo.TheVariants.{Nop, Mv, Not, Neg, Seqz, Snez, Beqz, Bnez, J, Call, Jr, Ret, Li, La, Os}
 use Rattle.asm_lines.specs.declared.mnemonics.Head.{Head}

@@ -9,15 +9,15 @@ use Rattle.asm_lines.specs.Language.{Operand, Number, Named, Piece, Is, Comma, O
 use Rattle.asm_lines.specs.Pieces.{operands_among}
 use Rattle.asm_lines.specs.Registers.{register_number}
 use Rattle.asm_lines.specs.Words.{service_number, key_of}
-use Rattle.asm_lines.specs.declared.mnemonics.RegisterOp.{RegisterOp}
-use Rattle.asm_lines.specs.declared.mnemonics.RegisterOp.TheVariants.{Sub, Sltu}
-use Rattle.asm_lines.specs.declared.mnemonics.ImmediateOp.{ImmediateOp}
-use Rattle.asm_lines.specs.declared.mnemonics.ImmediateOp.TheVariants.{Addi, Sltiu, Xori, Jalr}
-use Rattle.asm_lines.specs.declared.mnemonics.ShiftOp.{ShiftOp}
-use Rattle.asm_lines.specs.declared.mnemonics.StoreOp.{StoreOp}
-use Rattle.asm_lines.specs.declared.mnemonics.BranchOp.{BranchOp}
-use Rattle.asm_lines.specs.declared.mnemonics.BranchOp.TheVariants.{Beq, Bne}
-use Rattle.asm_lines.specs.declared.mnemonics.UpperOp.{UpperOp}
+use Rattle.rv32_isa.specs.declared.mnemonics.RegisterOp.{RegisterOp}
+use Rattle.rv32_isa.specs.declared.mnemonics.RegisterOp.TheVariants.{Sub, Sltu}
+use Rattle.rv32_isa.specs.declared.mnemonics.ImmediateOp.{ImmediateOp}
+use Rattle.rv32_isa.specs.declared.mnemonics.ImmediateOp.TheVariants.{Addi, Sltiu, Xori, Jalr}
+use Rattle.rv32_isa.specs.declared.mnemonics.ShiftOp.{ShiftOp}
+use Rattle.rv32_isa.specs.declared.mnemonics.StoreOp.{StoreOp}
+use Rattle.rv32_isa.specs.declared.mnemonics.BranchOp.{BranchOp}
+use Rattle.rv32_isa.specs.declared.mnemonics.BranchOp.TheVariants.{Beq, Bne}
+use Rattle.rv32_isa.specs.declared.mnemonics.UpperOp.{UpperOp}
 use Rattle.asm_lines.specs.declared.mnemonics.Pseudo.{Pseudo}
 use Rattle.asm_lines.specs.declared.mnemonics.Pseudo.TheVariants.{Nop, Mv, Not, Neg, Seqz, Snez, Beqz, Bnez, J, Call, Jr, Ret, Li, La, Os}
 use Rattle.asm_lines.specs.declared.mnemonics.Head.{Head}

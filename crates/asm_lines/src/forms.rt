@@ -4,15 +4,14 @@ ghost use Rattle.std.specs.Prelude.{◌≡◌, ◌<◌, ◌^◌, length, slice_i
 ghost use Rattle.asm_lines.specs.KeptForms as forms;
 
 use crate::fields::{Fields, Listed};
-use crate::mnemonics::{
-    AloneOp, BranchOp, Head, ImmediateOp, Pseudo, RegisterOp, ShiftOp, StoreOp, UpperOp,
-};
+use crate::mnemonics::{Head, Pseudo};
 use crate::pieces::{Operand, Piece, Span, spelling};
 use crate::registers::register_number;
 use crate::statements::Statement;
 use crate::tables::entry;
 use crate::words::{key_of, service_number};
 use kern_base::Kind;
+use rv32_isa::{AloneOp, BranchOp, ImmediateOp, RegisterOp, ShiftOp, StoreOp, UpperOp};
 use std::alloc::{AllocError, Global};
 use text_lex::Token;
 

@@ -8,16 +8,13 @@ mod mnemonics;
 mod pieces;
 mod placing;
 mod registers;
-mod spellings;
 mod statements;
 mod tables;
 mod words;
 
 pub use fields::Fields;
 pub use lines::{Reading, read};
-pub use mnemonics::{
-    AloneOp, BranchOp, ImmediateOp, RegisterOp, Section, ShiftOp, StoreOp, UpperOp, jump_mnemonic,
-};
+pub use mnemonics::Section;
 pub use pieces::{Operand, Piece, Span, make_piece, spelling};
 pub use placing::placing_lines;
 pub use statements::{Line, Statement};

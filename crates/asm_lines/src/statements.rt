@@ -1,12 +1,11 @@
 // What stands on a line.
 
 use crate::fields::{Fields, Listed};
-use crate::mnemonics::{
-    AloneOp, BranchOp, ImmediateOp, RegisterOp, Section, ShiftOp, StoreOp, UpperOp,
-};
+use crate::mnemonics::Section;
 use crate::pieces::{Operand, Span};
 use app_image::ConfigKey;
 use kern_base::Kind;
+use rv32_isa::{AloneOp, BranchOp, ImmediateOp, RegisterOp, ShiftOp, StoreOp, UpperOp};
 
 /// What follows the label of a line. A register is None where a name stands that is no register.
 #[derive(Drop)]

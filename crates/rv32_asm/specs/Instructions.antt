@@ -9,20 +9,20 @@ use Rattle.asm_places.specs.Operands.{constant_of, value_of, word_of, fits_low, 
 use Rattle.asm_causes.specs.Causes.{distance}
 use Rattle.asm_causes.specs.Places.{space_size}
 use Rattle.asm_lines.specs.Language.{Operand, Statement, Words, Space, Registers, Immediate, Shift, Store, Branch, Upper, Jump, Alone, LoadConstant, LoadValue, CallService}
-use Rattle.asm_lines.specs.declared.mnemonics.RegisterOp.{RegisterOp}
-use Rattle.asm_lines.specs.declared.mnemonics.RegisterOp.TheVariants.{Add, Sub, Sll, Slt, Sltu, Xor, Srl, Sra, Or, And, Mul, Mulh, Mulhsu, Mulhu, Div, Divu, Rem, Remu}
-use Rattle.asm_lines.specs.declared.mnemonics.ImmediateOp.{ImmediateOp}
-use Rattle.asm_lines.specs.declared.mnemonics.ImmediateOp.TheVariants.{Addi, Slti, Sltiu, Xori, Ori, Andi, Jalr, Lb, Lh, Lw, Lbu, Lhu}
-use Rattle.asm_lines.specs.declared.mnemonics.ShiftOp.{ShiftOp}
-use Rattle.asm_lines.specs.declared.mnemonics.ShiftOp.TheVariants.{Slli, Srli, Srai}
-use Rattle.asm_lines.specs.declared.mnemonics.StoreOp.{StoreOp}
-use Rattle.asm_lines.specs.declared.mnemonics.StoreOp.TheVariants.{Sb, Sh, Sw}
-use Rattle.asm_lines.specs.declared.mnemonics.BranchOp.{BranchOp}
-use Rattle.asm_lines.specs.declared.mnemonics.BranchOp.TheVariants.{Beq, Bne, Blt, Bge, Bltu, Bgeu}
-use Rattle.asm_lines.specs.declared.mnemonics.UpperOp.{UpperOp}
-use Rattle.asm_lines.specs.declared.mnemonics.UpperOp.TheVariants.{Lui, Auipc}
-use Rattle.asm_lines.specs.declared.mnemonics.AloneOp.{AloneOp}
-use Rattle.asm_lines.specs.declared.mnemonics.AloneOp.TheVariants.{Fence, Ecall, Ebreak}
+use Rattle.rv32_isa.specs.declared.mnemonics.RegisterOp.{RegisterOp}
+use Rattle.rv32_isa.specs.declared.mnemonics.RegisterOp.TheVariants.{Add, Sub, Sll, Slt, Sltu, Xor, Srl, Sra, Or, And, Mul, Mulh, Mulhsu, Mulhu, Div, Divu, Rem, Remu}
+use Rattle.rv32_isa.specs.declared.mnemonics.ImmediateOp.{ImmediateOp}
+use Rattle.rv32_isa.specs.declared.mnemonics.ImmediateOp.TheVariants.{Addi, Slti, Sltiu, Xori, Ori, Andi, Jalr, Lb, Lh, Lw, Lbu, Lhu}
+use Rattle.rv32_isa.specs.declared.mnemonics.ShiftOp.{ShiftOp}
+use Rattle.rv32_isa.specs.declared.mnemonics.ShiftOp.TheVariants.{Slli, Srli, Srai}
+use Rattle.rv32_isa.specs.declared.mnemonics.StoreOp.{StoreOp}
+use Rattle.rv32_isa.specs.declared.mnemonics.StoreOp.TheVariants.{Sb, Sh, Sw}
+use Rattle.rv32_isa.specs.declared.mnemonics.BranchOp.{BranchOp}
+use Rattle.rv32_isa.specs.declared.mnemonics.BranchOp.TheVariants.{Beq, Bne, Blt, Bge, Bltu, Bgeu}
+use Rattle.rv32_isa.specs.declared.mnemonics.UpperOp.{UpperOp}
+use Rattle.rv32_isa.specs.declared.mnemonics.UpperOp.TheVariants.{Lui, Auipc}
+use Rattle.rv32_isa.specs.declared.mnemonics.AloneOp.{AloneOp}
+use Rattle.rv32_isa.specs.declared.mnemonics.AloneOp.TheVariants.{Fence, Ecall, Ebreak}
 use Rattle.asm_places.specs.Place.{Place}
 use Rattle.asm_places.specs.declared.places.Meaning.{Meaning}
 use Rattle.asm_places.specs.declared.places.Meaning.TheVariants.{Label}

@@ -12,14 +12,13 @@ ghost use Rattle.asm_places.specs.NamesView.{known_in};
 ghost use Rattle.rv32_asm.specs.Instructions as instructions;
 
 use asm_causes::{distance, space_size};
-use asm_lines::{
-    AloneOp, BranchOp, ImmediateOp, Operand, Piece, RegisterOp, ShiftOp, Span, Statement, StoreOp,
-    UpperOp, make_piece,
-};
+use asm_lines::{Operand, Piece, Span, Statement, make_piece};
 use asm_places::{
     LinePlaces, Meaning, Names, Place, constant_of, fits_low, meaning, value_of, word_of,
 };
-use rv32_isa::{Instr, encode};
+use rv32_isa::{
+    AloneOp, BranchOp, ImmediateOp, Instr, RegisterOp, ShiftOp, StoreOp, UpperOp, encode,
+};
 use std::alloc::AllocError;
 use text_lex::Token;
 

@@ -1,15 +1,20 @@
-// The RV32I and RV32M instructions of the RISC-V Unprivileged ISA manual: words to instructions and back.
+// The RV32I and RV32M instructions of the RISC-V Unprivileged ISA manual: words to instructions and back, and mnemonics.
 #![tactic(auto)]
 
 mod decoding;
 mod encoding;
 mod fields;
+mod mnemonics;
 mod operands;
+pub mod spellings;
 #[cfg(test)]
 mod tests;
 
 pub use decoding::decode;
 pub use encoding::encode;
+pub use mnemonics::{
+    AloneOp, BranchOp, ImmediateOp, RegisterOp, ShiftOp, StoreOp, UpperOp, jump_mnemonic,
+};
 
 /// An instruction of RV32I or RV32M (RISC-V Unprivileged ISA, "RV32/64G Instruction Set Listings").
 ///

@@ -2,13 +2,13 @@
 use Rattle.std.specs.Prelude.{ℕ, ◌==◌, if◌then◌else◌}
 use Rattle.rv32_isa.specs.declared.Instr.{Instr}
 use Rattle.rv32_isa.specs.declared.Instr.TheVariants.{Lui, Auipc, Jal, Jalr, Beq, Bne, Blt, Bge, Bltu, Bgeu, Lb, Lh, Lw, Lbu, Lhu, Sb, Sh, Sw, Addi, Slti, Sltiu, Xori, Ori, Andi, Slli, Srli, Srai, Add, Sub, Sll, Slt, Sltu, Xor, Srl, Sra, Or, And, Fence, Ecall, Ebreak, Mul, Mulh, Mulhsu, Mulhu, Div, Divu, Rem, Remu}
-use Rattle.asm_lines.specs.declared.mnemonics.RegisterOp.TheVariants as register
-use Rattle.asm_lines.specs.declared.mnemonics.ImmediateOp.TheVariants as immediate
-use Rattle.asm_lines.specs.declared.mnemonics.ShiftOp.TheVariants as shift
-use Rattle.asm_lines.specs.declared.mnemonics.StoreOp.TheVariants as store
-use Rattle.asm_lines.specs.declared.mnemonics.BranchOp.TheVariants as branch
-use Rattle.asm_lines.specs.declared.mnemonics.UpperOp.TheVariants as upper
-use Rattle.asm_lines.specs.declared.mnemonics.AloneOp.TheVariants as alone
+use Rattle.rv32_isa.specs.declared.mnemonics.RegisterOp.TheVariants as register
+use Rattle.rv32_isa.specs.declared.mnemonics.ImmediateOp.TheVariants as immediate
+use Rattle.rv32_isa.specs.declared.mnemonics.ShiftOp.TheVariants as shift
+use Rattle.rv32_isa.specs.declared.mnemonics.StoreOp.TheVariants as store
+use Rattle.rv32_isa.specs.declared.mnemonics.BranchOp.TheVariants as branch
+use Rattle.rv32_isa.specs.declared.mnemonics.UpperOp.TheVariants as upper
+use Rattle.rv32_isa.specs.declared.mnemonics.AloneOp.TheVariants as alone
 use Rattle.rv32_listing.specs.declared.forms.Form.{Form}
 use Rattle.rv32_listing.specs.declared.forms.Form.TheVariants.{Registers, Immediate, Load, Shift, Store, Branch, Upper, Jump, Alone, Unwritten}
 

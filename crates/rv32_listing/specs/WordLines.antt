@@ -4,8 +4,8 @@ use Rattle.std.specs.Fmt.{signed_decimal}
 use Rattle.std.specs.Option.{option_map, option_and_then}
 use Rattle.app_image.specs.Addresses.{is_code_address}
 use Rattle.rv32_isa.specs.Decoded.{decoded}
-use Rattle.asm_lines.specs.declared.mnemonics.BranchOp.{BranchOp}
-use Rattle.asm_lines.specs.Mnemonics.{register_mnemonic, immediate_mnemonic, shift_mnemonic, store_mnemonic, branch_mnemonic, upper_mnemonic, jump_mnemonic, alone_mnemonic}
+use Rattle.rv32_isa.specs.declared.mnemonics.BranchOp.{BranchOp}
+use Rattle.rv32_isa.specs.Mnemonics.{register_mnemonic, immediate_mnemonic, shift_mnemonic, store_mnemonic, branch_mnemonic, upper_mnemonic, jump_mnemonic, alone_mnemonic}
 use Rattle.rv32_listing.specs.Texts.{label, register, based, statement, word_statement}
 use Rattle.rv32_listing.specs.Forms.{form_of}
 use Rattle.rv32_listing.specs.declared.forms.Form.{Form}

@@ -3,8 +3,7 @@
 ghost use Rattle.std.specs.Prelude.{◌≡◌};
 ghost use Rattle.rv32_listing.specs.Forms.{fence_form, form_of};
 
-use asm_lines::{AloneOp, BranchOp, ImmediateOp, RegisterOp, ShiftOp, StoreOp, UpperOp};
-use rv32_isa::Instr;
+use rv32_isa::{AloneOp, BranchOp, ImmediateOp, Instr, RegisterOp, ShiftOp, StoreOp, UpperOp};
 
 /// An instruction by the form of its line: what of the assembler's table it begins with, and its operands.
 #[derive(Clone, Copy)]

@@ -8,8 +8,7 @@ ghost use Rattle.rv32_listing.specs.WordLines.{branch_to, code_line, code_statem
 use crate::forms::{Form, form_of};
 use crate::pieces::{Line, Operand, push_bytes, push_hexadecimal, push_label, push_statement};
 use arrayvec::ArrayVec;
-use asm_lines::{BranchOp, jump_mnemonic};
-use rv32_isa::decode;
+use rv32_isa::{BranchOp, decode, jump_mnemonic};
 
 // Where a branch or a jump goes from an address, if that is a code word, of so many.
 fn target(words: u32, address: u32, distance: i32) -> Option<u64>

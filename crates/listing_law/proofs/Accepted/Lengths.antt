@@ -21,7 +21,8 @@ use Rattle.app_image.specs.declared.records.ObjDef.{ObjDef}
 use Rattle.app_image.specs.declared.records.VectorDef.{VectorDef}
 use Rattle.app_image.specs.declared.settings.Config.{Config}
 use Rattle.asm_lines.specs.Tables.{entry}
-use Rattle.asm_lines.specs.Mnemonics.{heads, head_of, register_mnemonic, immediate_mnemonic, shift_mnemonic, store_mnemonic, branch_mnemonic, upper_mnemonic, alone_mnemonic}
+use Rattle.asm_lines.specs.Mnemonics.{heads, head_of}
+use Rattle.rv32_isa.specs.Mnemonics.{register_mnemonic, immediate_mnemonic, shift_mnemonic, store_mnemonic, branch_mnemonic, upper_mnemonic, alone_mnemonic}
 use Rattle.asm_lines.specs.declared.mnemonics.Head.{Head}
 use Rattle.rv32_listing.specs.WordLines.{code_line}
 use Rattle.rv32_listing.specs.Disassembly.{code_lines, ram_line, object_line, task_line, vector_line, setting_lines, kind_statement, callback, disassembly}

@@ -5,17 +5,18 @@ use Rattle.std.specs.Fmt.{signed_decimal}
 use Rattle.text_lex.specs.Division.{Part, Blank, Lexeme}
 use Rattle.text_lex.specs.declared.TokenKind.TheVariants as kind
 use Rattle.rv32_isa.specs.Listing.{IsImmediate12, IsUpper, IsShift}
-use Rattle.asm_lines.specs.Mnemonics.{register_mnemonic, immediate_mnemonic, shift_mnemonic, store_mnemonic, branch_mnemonic, upper_mnemonic, alone_mnemonic, jump_mnemonic, head_of}
+use Rattle.asm_lines.specs.Mnemonics.{head_of}
+use Rattle.rv32_isa.specs.Mnemonics.{register_mnemonic, immediate_mnemonic, shift_mnemonic, store_mnemonic, branch_mnemonic, upper_mnemonic, alone_mnemonic, jump_mnemonic}
 use Rattle.asm_lines.specs.Forms.{form}
 use Rattle.asm_lines.specs.Lines.{formed, headed, statement_of}
 use Rattle.asm_lines.specs.Language.{Piece, Is, Dotted, Number, Named, Statement, Registers, Immediate, Shift, Store, Branch, Upper, Jump, Alone, Words}
-use Rattle.asm_lines.specs.declared.mnemonics.RegisterOp.{RegisterOp}
-use Rattle.asm_lines.specs.declared.mnemonics.ImmediateOp.{ImmediateOp}
-use Rattle.asm_lines.specs.declared.mnemonics.ShiftOp.{ShiftOp}
-use Rattle.asm_lines.specs.declared.mnemonics.StoreOp.{StoreOp}
-use Rattle.asm_lines.specs.declared.mnemonics.BranchOp.{BranchOp}
-use Rattle.asm_lines.specs.declared.mnemonics.UpperOp.{UpperOp}
-use Rattle.asm_lines.specs.declared.mnemonics.AloneOp.{AloneOp}
+use Rattle.rv32_isa.specs.declared.mnemonics.RegisterOp.{RegisterOp}
+use Rattle.rv32_isa.specs.declared.mnemonics.ImmediateOp.{ImmediateOp}
+use Rattle.rv32_isa.specs.declared.mnemonics.ShiftOp.{ShiftOp}
+use Rattle.rv32_isa.specs.declared.mnemonics.StoreOp.{StoreOp}
+use Rattle.rv32_isa.specs.declared.mnemonics.BranchOp.{BranchOp}
+use Rattle.rv32_isa.specs.declared.mnemonics.UpperOp.{UpperOp}
+use Rattle.rv32_isa.specs.declared.mnemonics.AloneOp.{AloneOp}
 use Rattle.asm_lines.specs.declared.mnemonics.Head.{Head}
 use Rattle.asm_lines.specs.declared.mnemonics.Head.TheVariants as head
 use Rattle.rv32_listing.specs.Texts.{label, register, hexadecimal}

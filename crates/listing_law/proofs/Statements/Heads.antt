@@ -3,22 +3,23 @@ use Rattle.std.proofs.Common.{◌≡◌, ℕ, ◌<◌, Bool, true, false, refl, 
 use Rattle.std.specs.Prelude.{Option, Some, None, ◌==◌}
 use Rattle.std.specs.Fmt.{digits}
 use Rattle.std.proofs.lemmas.Bool.{eqb-true}
-use Rattle.asm_lines.specs.Mnemonics.{register_mnemonic, immediate_mnemonic, shift_mnemonic, store_mnemonic, branch_mnemonic, upper_mnemonic, alone_mnemonic, jump_mnemonic, head_of}
+use Rattle.asm_lines.specs.Mnemonics.{head_of}
+use Rattle.rv32_isa.specs.Mnemonics.{register_mnemonic, immediate_mnemonic, shift_mnemonic, store_mnemonic, branch_mnemonic, upper_mnemonic, alone_mnemonic, jump_mnemonic}
 use Rattle.asm_lines.specs.Registers.{register_number}
-use Rattle.asm_lines.specs.declared.mnemonics.RegisterOp.{RegisterOp}
-use Rattle.asm_lines.specs.declared.mnemonics.RegisterOp.TheVariants as r
-use Rattle.asm_lines.specs.declared.mnemonics.ImmediateOp.{ImmediateOp}
-use Rattle.asm_lines.specs.declared.mnemonics.ImmediateOp.TheVariants as i
-use Rattle.asm_lines.specs.declared.mnemonics.ShiftOp.{ShiftOp}
-use Rattle.asm_lines.specs.declared.mnemonics.ShiftOp.TheVariants as sh
-use Rattle.asm_lines.specs.declared.mnemonics.StoreOp.{StoreOp}
-use Rattle.asm_lines.specs.declared.mnemonics.StoreOp.TheVariants as st
-use Rattle.asm_lines.specs.declared.mnemonics.BranchOp.{BranchOp}
-use Rattle.asm_lines.specs.declared.mnemonics.BranchOp.TheVariants as b
-use Rattle.asm_lines.specs.declared.mnemonics.UpperOp.{UpperOp}
-use Rattle.asm_lines.specs.declared.mnemonics.UpperOp.TheVariants as u
-use Rattle.asm_lines.specs.declared.mnemonics.AloneOp.{AloneOp}
-use Rattle.asm_lines.specs.declared.mnemonics.AloneOp.TheVariants as a
+use Rattle.rv32_isa.specs.declared.mnemonics.RegisterOp.{RegisterOp}
+use Rattle.rv32_isa.specs.declared.mnemonics.RegisterOp.TheVariants as r
+use Rattle.rv32_isa.specs.declared.mnemonics.ImmediateOp.{ImmediateOp}
+use Rattle.rv32_isa.specs.declared.mnemonics.ImmediateOp.TheVariants as i
+use Rattle.rv32_isa.specs.declared.mnemonics.ShiftOp.{ShiftOp}
+use Rattle.rv32_isa.specs.declared.mnemonics.ShiftOp.TheVariants as sh
+use Rattle.rv32_isa.specs.declared.mnemonics.StoreOp.{StoreOp}
+use Rattle.rv32_isa.specs.declared.mnemonics.StoreOp.TheVariants as st
+use Rattle.rv32_isa.specs.declared.mnemonics.BranchOp.{BranchOp}
+use Rattle.rv32_isa.specs.declared.mnemonics.BranchOp.TheVariants as b
+use Rattle.rv32_isa.specs.declared.mnemonics.UpperOp.{UpperOp}
+use Rattle.rv32_isa.specs.declared.mnemonics.UpperOp.TheVariants as u
+use Rattle.rv32_isa.specs.declared.mnemonics.AloneOp.{AloneOp}
+use Rattle.rv32_isa.specs.declared.mnemonics.AloneOp.TheVariants as a
 use Rattle.asm_lines.specs.declared.mnemonics.Head.TheVariants.{Registers, Immediate, Load, Shift, Store, Branch, Upper, Jump, Alone}
 use Rattle.rv32_listing.specs.Texts.{register}
 use Rattle.listing_law.proofs.Tokens.Numerals.{below_at}

@@ -3,7 +3,7 @@ use Rattle.std.proofs.Common.{ℕ, ◌<◌, List, [], ◌∷◌, ◌++◌, arith
 use Rattle.std.proofs.lemmas.Int.{ints}
 use Rattle.text_lex.specs.Division.{Part, BeginsNoName}
 use Rattle.rv32_isa.specs.Listing.{IsImmediate12, IsUpper, IsShift}
-use Rattle.asm_lines.specs.Mnemonics.{register_mnemonic, immediate_mnemonic, shift_mnemonic, store_mnemonic, branch_mnemonic, upper_mnemonic, alone_mnemonic, jump_mnemonic}
+use Rattle.rv32_isa.specs.Mnemonics.{register_mnemonic, immediate_mnemonic, shift_mnemonic, store_mnemonic, branch_mnemonic, upper_mnemonic, alone_mnemonic, jump_mnemonic}
 use Rattle.rv32_listing.specs.Texts.{label, register}
 use Rattle.listing_law.proofs.Tokens.Parts.{flat, IsPiece, ArePieces}
 use Rattle.listing_law.proofs.Tokens.Read.{name_read, directive_read, signed_read}

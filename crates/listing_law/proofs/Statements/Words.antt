@@ -14,9 +14,9 @@ use Rattle.rv32_isa.proofs.Law.{encoded-decoded}
 use Rattle.asm_places.specs.Operands.{is_within}
 use Rattle.asm_causes.specs.Causes.{is_even, branch_reaches, jump_reaches}
 use Rattle.rv32_asm.specs.Instructions.{of_registers, of_immediate, of_shift, of_store, of_branch, of_upper, of_alone}
-use Rattle.asm_lines.specs.declared.mnemonics.BranchOp.{BranchOp}
-use Rattle.asm_lines.specs.declared.mnemonics.BranchOp.TheVariants as branch
-use Rattle.asm_lines.specs.declared.mnemonics.AloneOp.TheVariants as alone
+use Rattle.rv32_isa.specs.declared.mnemonics.BranchOp.{BranchOp}
+use Rattle.rv32_isa.specs.declared.mnemonics.BranchOp.TheVariants as branch
+use Rattle.rv32_isa.specs.declared.mnemonics.AloneOp.TheVariants as alone
 use Rattle.rv32_listing.specs.Texts.{word_statement}
 use Rattle.rv32_listing.specs.Forms.{form_of, fence_form}
 use Rattle.rv32_listing.specs.WordLines.{code_address, target, branch_to, jump_to, form_statement, code_statement}

@@ -4,21 +4,21 @@ use Rattle.std.specs.List.{list_all}
 use Rattle.std.proofs.lemmas.Bool.{and_parts, and_from}
 use Rattle.std.proofs.lemmas.Bool.Decides.{nat_tests}
 use Rattle.text_lex.specs.Bytes.{is_digit, is_name, is_name_byte}
-use Rattle.asm_lines.specs.Mnemonics.{register_mnemonic, immediate_mnemonic, shift_mnemonic, store_mnemonic, branch_mnemonic, upper_mnemonic, alone_mnemonic}
-use Rattle.asm_lines.specs.declared.mnemonics.RegisterOp.{RegisterOp}
-use Rattle.asm_lines.specs.declared.mnemonics.RegisterOp.TheVariants as r
-use Rattle.asm_lines.specs.declared.mnemonics.ImmediateOp.{ImmediateOp}
-use Rattle.asm_lines.specs.declared.mnemonics.ImmediateOp.TheVariants as i
-use Rattle.asm_lines.specs.declared.mnemonics.ShiftOp.{ShiftOp}
-use Rattle.asm_lines.specs.declared.mnemonics.ShiftOp.TheVariants as sh
-use Rattle.asm_lines.specs.declared.mnemonics.StoreOp.{StoreOp}
-use Rattle.asm_lines.specs.declared.mnemonics.StoreOp.TheVariants as st
-use Rattle.asm_lines.specs.declared.mnemonics.BranchOp.{BranchOp}
-use Rattle.asm_lines.specs.declared.mnemonics.BranchOp.TheVariants as b
-use Rattle.asm_lines.specs.declared.mnemonics.UpperOp.{UpperOp}
-use Rattle.asm_lines.specs.declared.mnemonics.UpperOp.TheVariants as u
-use Rattle.asm_lines.specs.declared.mnemonics.AloneOp.{AloneOp}
-use Rattle.asm_lines.specs.declared.mnemonics.AloneOp.TheVariants as a
+use Rattle.rv32_isa.specs.Mnemonics.{register_mnemonic, immediate_mnemonic, shift_mnemonic, store_mnemonic, branch_mnemonic, upper_mnemonic, alone_mnemonic}
+use Rattle.rv32_isa.specs.declared.mnemonics.RegisterOp.{RegisterOp}
+use Rattle.rv32_isa.specs.declared.mnemonics.RegisterOp.TheVariants as r
+use Rattle.rv32_isa.specs.declared.mnemonics.ImmediateOp.{ImmediateOp}
+use Rattle.rv32_isa.specs.declared.mnemonics.ImmediateOp.TheVariants as i
+use Rattle.rv32_isa.specs.declared.mnemonics.ShiftOp.{ShiftOp}
+use Rattle.rv32_isa.specs.declared.mnemonics.ShiftOp.TheVariants as sh
+use Rattle.rv32_isa.specs.declared.mnemonics.StoreOp.{StoreOp}
+use Rattle.rv32_isa.specs.declared.mnemonics.StoreOp.TheVariants as st
+use Rattle.rv32_isa.specs.declared.mnemonics.BranchOp.{BranchOp}
+use Rattle.rv32_isa.specs.declared.mnemonics.BranchOp.TheVariants as b
+use Rattle.rv32_isa.specs.declared.mnemonics.UpperOp.{UpperOp}
+use Rattle.rv32_isa.specs.declared.mnemonics.UpperOp.TheVariants as u
+use Rattle.rv32_isa.specs.declared.mnemonics.AloneOp.{AloneOp}
+use Rattle.rv32_isa.specs.declared.mnemonics.AloneOp.TheVariants as a
 use Rattle.rv32_listing.specs.Texts.{label, register}
 use Rattle.listing_law.proofs.Tokens.Numerals.{decimal_is}
 
