@@ -1,8 +1,9 @@
 #!/bin/sh
 # Holds the program to its budget in instructions of the processor, which other work on the machine does not change: for each case the
 # instructions of one task step, as the difference of a run to 150,000 task steps and one to 50,000, divided by 100,000; and for texts
-# that are read and listed the instructions of the whole process, and the most memory that it takes at once. Prints a line for each case,
-# and fails where one is above its budget. Needs valgrind and /usr/bin/time. First build the program: (cd crates/ucos3 && rt run)
+# that are read and listed the instructions of the whole process, and the most memory that it takes at once. Holds the deferred method
+# to the direct one, and ticks with many delayed tasks to ticks with one. Prints a line for each case, and fails where one is above its
+# budget. Needs valgrind and /usr/bin/time. First build the program: (cd crates/ucos3 && rt run)
 set -eu
 cd "$(dirname "$0")/.."
 . bench/built.sh
@@ -44,6 +45,20 @@ interrupts() {
     printf '.code\ngo: addi t0, t0, 1\nj go\nhandler: os OSSemPost\nret\nwoken: os OSSemPend\nj woken\n.sem s, 0\n%s\n' "$task"
     printf '.task b, woken, 5, 0, 0, 0x13e000\n.vector 3, 2, handler, 0x13f000\n.inject\n'
     awk 'BEGIN { for (i = 0; i < 16384; i++) print "step " 60 * i + 7 ", 3" }'
+}
+
+# So many tasks are delayed far away, each to a tick of its own. From the four hundredth task step on every second one is a tick, and
+# none of these ends a delay.
+delayed() {
+    awk -v tasks="$1" 'BEGIN {
+        print ".code"
+        for (i = 0; i < tasks; i++) {
+            printf "l%d: li a0, %d\nos OSTimeDly\nj l%d\n", i, 1000000000 + i, i
+            printf ".task t%d, l%d, 10, 0, 0, 0x140000\n", i, i
+        }
+        print "tick: os OSTimeTick\nret\n.vector 3, 2, tick, 0x13f000\n.inject"
+        for (i = 0; i < 2000; i++) printf "task %d, 3\n", 400 + 2 * i
+    }'
 }
 
 # A text of 4 MiB: instructions and words of RAM with labels and comments, and lines of comments behind them.
@@ -106,6 +121,21 @@ compare() {
     if [ "$percent" -gt 105 ]; then over=1; fi
 }
 
+# The instructions of the second 1,000 ticks of a case with delayed tasks, by a method.
+ticks() {
+    echo $(($(collected "$1" run "$2" 4400) - $(collected "$1" run "$2" 2400)))
+}
+
+# Measures 1,000 ticks by a method while 60 tasks are delayed against as many while one is: at most 110 of 100.
+compare_ticks() {
+    delayed 1 > "$folder/one_delayed"
+    delayed 60 > "$folder/all_delayed"
+    few=$(ticks one_delayed "$1")
+    percent=$(($(ticks all_delayed "$1") * 100 / few))
+    echo "$1: a tick takes $((few / 1000)) instructions with one delayed task, and with 60 $percent of 100 of them, budget 110"
+    if [ "$percent" -gt 110 ]; then over=1; fi
+}
+
 # Measures the listing of a text against its budget in millions.
 measure_list() {
     "$1" > "$folder/$1"
@@ -129,6 +159,8 @@ measure two_tasks 825
 measure interrupts 260
 compare loop
 compare semaphore
+compare_ticks direct
+compare_ticks deferred
 measure_list full_text 135
 measure_list most_instructions 800
 measure_list full_code 36

@@ -1,17 +1,17 @@
 -- A whole step that begins: what was decided of a call is planned, and its first micro-step is in hand.
-use Rattle.std.proofs.Common.{Bool, ◌≡◌, ℕ, ◌<◌, ◌+◌, ◌*◌, ◌/◌, List, [], ◌∷◌, ◌++◌, length, refl, sym, ap, ◌∙◌, subst, true, false, arith}
+use Rattle.std.proofs.Common.{Bool, ◌≡◌, ℕ, ◌<◌, ◌+◌, ◌*◌, ◌/◌, List, [], ◌∷◌, ◌++◌, length, refl, sym, ap, ◌∙◌, subst, true, false, None, arith}
 use Rattle.std.specs.Prelude.{◌==◌, ◌&&◌, ◌≤◌, if◌then◌else◌}
 use Rattle.std.proofs.lemmas.Bool.{false≢true}
 use Rattle.kern_base.specs.Services.{is_post}
 use Rattle.kern_base.specs.declared.numbers.Prio.{Prio}
 use Rattle.kern_base.specs.declared.services.Service.{Service}
-use Rattle.kern_base.specs.declared.services.Service.TheVariants.{SemPend, QPend, FlagPend, TaskSemPend, TaskQPend, FlagPost, TimeDly}
+use Rattle.kern_base.specs.declared.services.Service.TheVariants.{SemPend, QPend, FlagPend, TaskSemPend, TaskQPend, FlagPost, TimeDly, RoundRobinYield}
 use Rattle.kern_base.specs.declared.outcomes.Answer.{Answer}
 use Rattle.kern_base.specs.declared.outcomes.Around.{Around}
 use Rattle.kern_base.specs.declared.outcomes.Decision.{Decision}
 use Rattle.kern_base.specs.declared.outcomes.Decision.TheVariants.{Done, Block, Wake}
 use Rattle.kern_base.specs.declared.outcomes.Who.TheVariants.{First, All as Every, Matching}
-use Rattle.kern_model.specs.State.{Kernel, Task, count_of, is_zero, place_of, task_at, task_in, waits_for_nothing}
+use Rattle.kern_model.specs.State.{Kernel, Task, count_of, is_ready, is_zero, place_of, task_at, task_in, waits_for_nothing}
 use Rattle.kern_model.specs.Checks.{named_task}
 use Rattle.kern_model.specs.Micro.{Halves, Lists, Micro, in_order, lists_of, plain, whole}
 use Rattle.kern_model.specs.Effect.{Effect, blocks_on, chosen}
@@ -29,28 +29,31 @@ use Rattle.link_plans.proofs.Lemmas.{links_keep}
 use Rattle.decisions.specs.Around.{IsAround}
 use Rattle.decisions.specs.Decided.{bits_in, decided, wait_of, wakes_matching}
 use Rattle.tick_timers.specs.Matches.{IsUnmatched}
-use Rattle.kernel_records.specs.Suspension.{moves_task, suspension_of}
+use Rattle.kernel_records.specs.Suspension.{acts, moves_in_lists, moves_task, suspension_of}
 use Rattle.kernel_records.specs.Deciding.{IsServedDecision, decision_of, effect_by, own_change, waiters_of}
 use Rattle.kernel_records.proofs.DecidingFacts.{effect-decided, effect-moved}
-use Rattle.kernel_records.proofs.SuspensionFacts.{IsMoving, is-moving, moved-inside, moves-done}
-use Rattle.kernel_records.specs.Concluding.{objects_waited, woken_of}
+use Rattle.kernel_records.proofs.SuspensionFacts.{IsMoving, is-moving, moved-inside, moves-done, yields-unlocked}
+use Rattle.kernel_records.specs.Concluding.{handing, objects_waited, woken_of}
 use Rattle.kernel_records.specs.Served.{is_served_wait}
 use Rattle.kernel_records.proofs.ConcludingFacts.{all-posts, plain-flags, plain-wait}
 use Rattle.kernel_records.proofs.RowFacts.{beside, own-block}
-use Rattle.kernel_calls.specs.Moving.{known_links, moved_links}
-use Rattle.kernel_calls.proofs.MoveCase.{move-links}
+use Rattle.kernel_calls.specs.Moving.{known_links, links_moved}
+use Rattle.kernel_calls.proofs.MoveCase.{moved-links}
 use Rattle.kernel_calls.specs.Works.{MayBegin, WorkRecord, effect_of}
-use Rattle.kernel_calls.specs.Stepping.{AreNodes, HasPrios, IsInHand, IsPast, IsPlanned, IsResting, planned_bits, prios_over}
+use Rattle.kernel_records.specs.Ticks.{is_tick}
+use Rattle.kernel_calls.specs.Ending.{OfTick, OfUnit, course_for, course_of}
+use Rattle.kernel_calls.specs.Stepping.{AreNodes, HasPrios, IsInHand, IsPast, IsPlanned, IsPlannedAs, IsResting, IsTickPlanned, MayWork, planned_bits, prios_over}
+use Rattle.kernel_calls.specs.declared.seen.Seen.{Seen}
 use Rattle.kernel_calls.specs.KernelView.{state_with}
 use Rattle.kernel_calls.proofs.StepFacts.{below-cost, may-call}
 use Rattle.kernel_calls.proofs.EndFacts.{objects-kept}
-use Rattle.kernel_calls.proofs.LinkFacts.{AreLinksOf, blocks-end, fit-end, links-fresh, links_of, lists-end, prios-end}
+use Rattle.kernel_calls.proofs.LinkFacts.{AreLinksOf, blocks-end, body-alone, body_of, fit-end, links-fresh, links_of, lists-end, prios-end}
 use Rattle.kernel_calls.proofs.WakeCase.{wake-blocks, wake-fits, wake-nodes, wake-prios}
 use Rattle.kernel_calls.proofs.BlockCase.{block-blocks, block-fits, block-nodes, block-prios}
 use Rattle.kernel_calls.proofs.FlagCase.{flags-blocks, flags-fit, flags-nodes, flags-prios}
 use Rattle.kernel_calls.proofs.OwnChanges.{IsWaking, free_posted, is-waking, objects_posted, own-flags, own-keeps}
 use Rattle.kernel_records.proofs.WaitFacts.{AreObjects, unlocked, wait-objects, waited-objects}
-use Rattle.kernel_calls.proofs.WaiterFacts.{AllWait-waiters}
+use Rattle.kernel_calls.proofs.WaiterFacts.{AllWait-woken}
 
 -- a wait is no post
 wait-posts : (s : Service) → is_served_wait s ≡ true → is_post s ≡ false
@@ -96,10 +99,10 @@ module _ (w : WorkRecord) (q : Plan) (around : Around) (k : Kernel) (l : Lists) 
         let ks = wakes_links k.tasks w.compared xs in
         let all : AreLinksOf f (length k.objects) prios ks l =
         record {
-          fits = wake-fits w.request w.compared xs k l prios v a wait;
-          blocks = wake-blocks w.request w.compared xs k l prios v a wait ∙ sym made.blocks;
-          noded = subst (λ (ts : List Task). IsNoded ts (lists_after prios ks l).pend) (sym made.tasks) (wake-nodes w.request w.compared xs k l prios v a wait);
-          listed = λ y. wake-prios w.request w.compared xs k l prios v a wait p y ∙ sym (ap (λ (ts : List Task). (task_in ts y).prio) made.tasks);
+          fits = wake-fits (handing w.request) w.compared xs k l prios v a wait;
+          blocks = wake-blocks (handing w.request) w.compared xs k l prios v a wait ∙ sym made.blocks;
+          noded = subst (λ (ts : List Task). IsNoded ts (lists_after prios ks l).pend) (sym made.tasks) (wake-nodes (handing w.request) w.compared xs k l prios v a wait);
+          listed = λ y. wake-prios (handing w.request) w.compared xs k l prios v a wait p y ∙ sym (ap (λ (ts : List Task). (task_in ts y).prio) made.tasks);
         } in
         subst (λ js. AreLinksOf f (length k.objects) prios js l) (sym links) all
 
@@ -114,7 +117,7 @@ module _ (w : WorkRecord) (q : Plan) (around : Around) (k : Kernel) (l : Lists) 
         let links : matching_links k.tasks q.bits q.compared.0 q.woken.items ≡ matching_links k.tasks bits w.compared ws =
         ap (λ b. matching_links k.tasks b q.compared.0 q.woken.items) (same ∙ ap (λ (j : Kernel). bits_in (content_for w.request j)) own)
         ∙ ap (λ h. matching_links k.tasks bits h q.woken.items) compared ∙ ap (matching_links k.tasks bits w.compared) is in
-        let wait = AllWait-waiters w.request w.caller k v in
+        let wait = AllWait-woken (Wake Matching) w.request w.caller k s v in
         let all : AreLinksOf (wakes_matching bits w.compared ws (beside k os free)) (length k.objects) prios (matching_links k.tasks bits w.compared ws) l =
         record {
           fits = flags-fit bits w.compared ws k l prios v a wait;
@@ -138,43 +141,51 @@ module _ (w : WorkRecord) (q : Plan) (around : Around) (k : Kernel) (l : Lists) 
     links-decided (Done b) e s os is bits none = subst (λ ks. AreLinksOf (what (Done b)) (length k.objects) prios ks l) (sym none) (links-done b)
     links-decided Block e s os is bits none = links-block e s os
     links-decided (Wake First) e s os is bits none =
-        links-wake (chosen false ws) (what (Wake First)) (AllWait-chosen k false ws (AllWait-waiters w.request w.caller k v)) is
+        links-wake (chosen false ws) (what (Wake First)) (AllWait-chosen k false ws (AllWait-woken (Wake First) w.request w.caller k s v)) is
         (is-waking First w.request w.caller w.compared (chosen false ws) k s)
     links-decided (Wake Every) e s os is bits none =
-        links-wake ws (what (Wake Every)) (AllWait-waiters w.request w.caller k v) is
+        links-wake ws (what (Wake Every)) (AllWait-woken (Wake Every) w.request w.caller k s v) is
         (is-waking Every w.request w.caller w.compared ws k (all-posts w.request.service s))
     links-decided (Wake Matching) e s os is bits none = links-flags s is bits
 
-    -- a call that suspends a task or resumes one
+    -- a caller that yields is ready, and no internal task
+    yield-ready : (d : Decision) → w.request.service ≡ RoundRobinYield → d ≡ decision_of w.request around k → acts d ≡ true → (is_ready (task_at k w.caller) ≡ true) × (w.caller < 62)
+    yield-ready d t e acting =
+        let lock = equal k.lock 0 (not_false (k.lock == 0) (sym seen.locked ∙ yields-unlocked w.request around d k t e acting)) in
+        let ready = caller_ready k v w.caller (may-call w k may (ap is_post t)) lock in
+        let low = ready.0 in
+        (ready.1, omega (arith, low))
+
+    -- a call that suspends a task, resumes one or yields
     links-of-move : (d : Decision) → d ≡ decision_of w.request around k → IsServedDecision d w.request.service → around.caller.0 ≡ w.caller → moves_task w.request.service d ≡ true → q.known.items ≡ known_links d w.request w.caller w.compared k → AreLinksOf (suspension_of w.request.service (named_task w.request w.caller) w.caller w.compared k) (length k.objects) prios (links_of d k.tasks q) l
     links-of-move d e s who moves known =
         let r = w.request in
         let x = w.caller in
         let y = named_task r x in
         let is = moves-done r.service d moves s in
-        let links : links_of d k.tasks q ≡ moved_links r.service y w.compared (task_at k y) = ap (λ c. links_of c k.tasks q) is.1 ∙ known ∙ ap (λ b. if b then moved_links r.service y w.compared (task_at k y) else []) moves in
-        let inside : y < 64 = subst (λ n. y < n) v.sizes.tasks (subst (λ z. named_task r z < length k.tasks) who (moved-inside r around d k e moves)) in
+        let links : links_of d k.tasks q ≡ links_moved r.service y x w.compared k = ap (λ c. links_of c k.tasks q) is.1 ∙ known ∙ ap (λ b. if b then links_moved r.service y x w.compared k else []) moves in
+        let inside : (r.service ≡ RoundRobinYield → ⊥) → y < 64 = λ other. subst (λ n. y < n) v.sizes.tasks (subst (λ z. named_task r z < length k.tasks) who (moved-inside r around d k other e moves)) in
+        let ready : r.service ≡ RoundRobinYield → (is_ready (task_at k x) ≡ true) × (x < 62) = λ t. yield-ready d t e (and_second (moves_in_lists r.service) (acts d) moves) in
         let moving = subst (λ z. IsMoving r.service (task_at k (named_task r z))) who (is-moving r around d k e moves) in
-        subst (λ ks. AreLinksOf (suspension_of r.service y x w.compared k) (length k.objects) prios ks l) (sym links) (move-links k l prios v a p y inside r.service x w.compared moving)
+        subst (λ ks. AreLinksOf (suspension_of r.service y x w.compared k) (length k.objects) prios ks l) (sym links) (moved-links k l prios v a p r.service y x w.compared inside ready moving)
 
     -- what is planned
     planned-if : (b : Bool) (d : Decision) → moves_task w.request.service d ≡ b → d ≡ decision_of w.request around k → IsServedDecision d w.request.service → around.caller.0 ≡ w.caller → q.objects.items ≡ objects_waited d w.request → q.woken.items ≡ woken_of d ws → q.bits ≡ planned_bits d w.request w.caller k → q.known.items ≡ known_links d w.request w.caller w.compared k → AreLinksOf (effect_by d w.request w.caller w.compared ws k) (length k.objects) prios (links_of d k.tasks q) l
     planned-if true d m e s who os is bits known =
         subst (λ f. AreLinksOf f (length k.objects) prios (links_of d k.tasks q) l) (sym (effect-moved w.request d w.caller w.compared ws k m)) (links-of-move d e s who m known)
     planned-if false d m e s who os is bits known =
-        let none : q.known.items ≡ [] = known ∙ ap (λ b. if b then moved_links w.request.service (named_task w.request w.caller) w.compared (task_at k (named_task w.request w.caller)) else []) m in
+        let none : q.known.items ≡ [] = known ∙ ap (λ b. if b then links_moved w.request.service (named_task w.request w.caller) w.caller w.compared k else []) m in
         subst (λ f. AreLinksOf f (length k.objects) prios (links_of d k.tasks q) l) (sym (effect-decided w.request d w.caller w.compared ws k m)) (links-decided d e s os is bits none)
 
     pub links-planned : (d : Decision) → d ≡ decision_of w.request around k → IsServedDecision d w.request.service → around.caller.0 ≡ w.caller → q.objects.items ≡ objects_waited d w.request → q.woken.items ≡ woken_of d ws → q.bits ≡ planned_bits d w.request w.caller k → q.known.items ≡ known_links d w.request w.caller w.compared k → AreLinksOf (effect_by d w.request w.caller w.compared ws k) (length k.objects) prios (links_of d k.tasks q) l
     links-planned d e s who os is bits known = planned-if (moves_task w.request.service d) d refl e s who os is bits known
 
 -- a caller that is to wait has no match yet
-pub caller-unmatched : (w : WorkRecord) (q : Plan) (around : Around) (k : Kernel) (s : StepsRecord) → IsLinked k → IsInHand w q around k s → q.decision ≡ Block → IsUnmatched w.caller k.matches
-caller-unmatched w q around k s v h e =
-    let plan = h.planned in
+pub caller-unmatched : (w : WorkRecord) (q : Plan) (around : Around) (k : Kernel) → IsLinked k → MayBegin w.caller w.request k → IsPlanned w q around k → q.decision ≡ Block → IsUnmatched w.caller k.matches
+caller-unmatched w q around k v may plan e =
     let served : is_served_wait w.request.service ≡ true = subst (λ (d : Decision). IsServedDecision d w.request.service) e plan.served in
     let lock = equal k.lock 0 (not_false (k.lock == 0) (sym plan.around.locked ∙ unlocked w.request around k (sym e ∙ plan.decision) served)) in
-    let ready = (caller_ready k v w.caller (may-call w k h.may (wait-posts w.request.service served)) lock).1 in
+    let ready = (caller_ready k v w.caller (may-call w k may (wait-posts w.request.service served)) lock).1 in
     let t = task_at k w.caller in
     let waits : waits_for_nothing t.waiting ≡ true = and_first (waits_for_nothing t.waiting) (is_zero t.suspended) (and_second t.alive (waits_for_nothing t.waiting && is_zero t.suspended) ready) in
     let once = v.matches.once_matched w.caller in
@@ -185,18 +196,41 @@ caller-unmatched w q around k s v h e =
 pub some-steps : (e : Effect) (k : Kernel) → 0 < cost e k
 some-steps e k = below-cost e k 0 (omega arith)
 
+-- the links of a call that was planned
+pub call-body : (w : WorkRecord) (q : Plan) (around : Around) (k : Kernel) (l : Lists) (prios : List Prio) → IsLinked k → AreKernels k l → HasPrios k prios → MayBegin w.caller w.request k → IsPlanned w q around k → q.last ≡ None → AreLinksOf (effect_of w k) (length k.objects) prios (body_of k.tasks q) l
+call-body w q around k l prios v a p may plan last =
+    subst (λ ks. AreLinksOf (effect_of w k) (length k.objects) prios ks l) (sym (body-alone k.tasks q last))
+    (subst (λ f. AreLinksOf f (length k.objects) prios (links_of q.decision k.tasks q) l) (sym plan.effect)
+    (links-planned w q around k l prios v a p may plan.around plan.caller plan.compared q.decision plan.decision plan.served plan.who plan.objects plan.woken plan.bits plan.known))
+
+-- what is planned, by the course of the work
+pub as-call : (w : WorkRecord) (q : Plan) (seen : Seen) (k : Kernel) → w.unit ≡ false → is_tick w.request.service ≡ false → IsPlanned w q seen.around k → IsPlannedAs (course_of w) w q seen k
+as-call w q seen k u e h =
+    subst (λ b. IsPlannedAs (if b then OfUnit else course_for (is_tick w.request.service)) w q seen k) (sym u)
+    (subst (λ b. IsPlannedAs (course_for b) w q seen k) (sym e) h)
+
+pub as-tick : (w : WorkRecord) (q : Plan) (seen : Seen) (k : Kernel) → w.unit ≡ false → is_tick w.request.service ≡ true → IsTickPlanned w q seen k → IsPlannedAs (course_of w) w q seen k
+as-tick w q seen k u e h =
+    subst (λ b. IsPlannedAs (if b then OfUnit else course_for (is_tick w.request.service)) w q seen k) (sym u)
+    (subst (λ b. IsPlannedAs (course_for b) w q seen k) (sym e) h)
+
+-- the course of a call, and of a tick
+pub course-tick : (w : WorkRecord) → w.unit ≡ false → is_tick w.request.service ≡ true → OfTick ≡ course_of w
+course-tick w u e = sym (ap (λ b. if b then OfUnit else course_for (is_tick w.request.service)) u ∙ ap course_for e)
+
+-- the lists of nodes that a kernel at rest has
+pub at-start : (rs : Kernel) (s : StepsRecord) → AreNodes (state_with rs s.start) s.start → AreKernels (state_with rs s.start) s.start
+at-start rs s nodes = record { lists = refl; past = nodes.past; noded = nodes.noded }
+
 -- The first micro-step is in hand.
-pub begun-hand : (w : WorkRecord) (q : Plan) (around : Around) (rs : Kernel) (s t : StepsRecord) → IsLinked (state_with rs s.start) → AreNodes (state_with rs s.start) s.start → IsResting (state_with rs s.start) s
-    → w.caller < 64 → w.done ≡ 0 → MayBegin w.caller w.request (state_with rs s.start) → IsPlanned w q around (state_with rs s.start) → q.task ≡ 0 → q.made ≡ 0 → q.ended ≡ false
-    → ((ms : List Micro) (l : Lists) (i : ℕ) (ks : List Link) (end : Lists) → IsPaused ms l i (link.Plain ∷ ks) end s → IsMidway ms l i ks end t) → t.prios ≡ s.prios → IsInHand w q around (state_with rs s.start) t
-begun-hand w q around rs s t v nodes rest caller done may plan task made ended taken prios =
+pub begun-hand : (w : WorkRecord) (q : Plan) (seen : Seen) (rs : Kernel) (s t : StepsRecord) → IsLinked (state_with rs s.start) → AreNodes (state_with rs s.start) s.start → IsResting (state_with rs s.start) s
+    → w.caller < 64 → w.done ≡ 0 → MayWork w.unit w (state_with rs s.start) → IsPlannedAs (course_of w) w q seen (state_with rs s.start) → q.task ≡ 0 → q.made ≡ 0 → q.ended ≡ false
+    → AreLinksOf (effect_of w (state_with rs s.start)) (length (state_with rs s.start).objects) s.prios (body_of (state_with rs s.start).tasks q) s.start
+    → ((ms : List Micro) (l : Lists) (i : ℕ) (ks : List Link) (end : Lists) → IsPaused ms l i (link.Plain ∷ ks) end s → IsMidway ms l i ks end t) → t.prios ≡ s.prios → IsInHand w q seen (state_with rs s.start) t
+begun-hand w q seen rs s t v nodes rest caller done may plan task made ended all taken prios =
     let k = state_with rs s.start in
     let e = effect_of w k in
-    let m : AreKernels k s.start = record { lists = refl; past = nodes.past; noded = nodes.noded } in
-    let body = links_of q.decision k.tasks q in
-    let all : AreLinksOf e (length k.objects) s.prios body s.start =
-    subst (λ f. AreLinksOf f (length k.objects) s.prios body s.start) (sym plan.effect)
-    (links-planned w q around k s.start s.prios v m rest.prios may plan.around plan.caller plan.compared q.decision plan.decision plan.served plan.who plan.objects plan.woken plan.bits plan.known) in
+    let body = body_of k.tasks q in
     let links : links_left k.tasks q ≡ body ++ link.Plain ∷ [] = links-fresh k.tasks q task made ended in
     let end = lists_after s.prios body s.start in
     let same : nodes_seen (length (lists_of k).pend) s.halves ≡ whole (lists_of k) =

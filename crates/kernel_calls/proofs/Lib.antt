@@ -13,6 +13,15 @@ pub mod WakeCase
 pub mod FlagCase
 pub mod BlockCase
 pub mod MoveCase
+pub mod Following
+pub mod SignalCase
+pub mod RotationCase
+pub mod TickCase
+pub mod RenewalFacts
+pub mod UnitCase
+pub mod CallEnds
+pub mod CourseFacts
+pub mod MayEndFacts
 pub mod BeginFacts
 pub mod PlanningFacts
 pub mod PostFacts

@@ -1,5 +1,5 @@
 -- The links of a plan that begins, and the end of the step behind them.
-use Rattle.std.proofs.Common.{◌≡◌, ℕ, List, [], ◌∷◌, ◌++◌, drop, refl, ap, ◌∙◌, Bool, false}
+use Rattle.std.proofs.Common.{◌≡◌, ℕ, List, [], ◌∷◌, ◌++◌, append-nil, append_assoc, drop, refl, sym, ap, ◌∙◌, Bool, false, None}
 use Rattle.std.specs.Prelude.{if◌then◌else◌}
 use Rattle.kern_base.specs.declared.numbers.Prio.{Prio}
 use Rattle.kern_base.specs.declared.outcomes.Decision.{Decision}
@@ -13,7 +13,7 @@ use Rattle.micro_steps.specs.declared.link.Link.TheVariants as link
 use Rattle.micro_steps.specs.Blocks.{block_of}
 use Rattle.micro_steps.specs.Whole.{AreFit, lists_after, prios_after, task_block, task_blocks}
 use Rattle.link_plans.specs.Fits.{IsNoded}
-use Rattle.link_plans.specs.Plans.{block_links, decision_left, links_left, matching_left, matching_links, wakes_left, wakes_links}
+use Rattle.link_plans.specs.Plans.{block_links, decision_left, end_left, last_links, links_left, matching_left, matching_links, wakes_left, wakes_links}
 use Rattle.link_plans.specs.Renewals.{prios_past}
 use Rattle.link_plans.specs.declared.plan.Plan.{Plan}
 use Rattle.link_plans.proofs.Lemmas.{matching_begun, wakes_begun}
@@ -50,10 +50,19 @@ left-fresh (Wake Matching) ts q t m =
     ∙ ap (λ i. matching_left ts q.bits q.compared.0 0 (drop i q.woken.items)) t
     ∙ matching_begun ts q.bits q.compared.0 q.woken.items
 
-pub links-fresh : (ts : List Task) (q : Plan) → q.task ≡ 0 → q.made ≡ 0 → q.ended ≡ false → links_left ts q ≡ links_of q.decision ts q ++ link.Plain ∷ []
+-- all links of a plan before the end of the step
+abbrev pub body_of : List Task → Plan → List Link
+body_of ts q = links_of q.decision ts q ++ last_links q.last
+
+pub links-fresh : (ts : List Task) (q : Plan) → q.task ≡ 0 → q.made ≡ 0 → q.ended ≡ false → links_left ts q ≡ body_of ts q ++ link.Plain ∷ []
 links-fresh ts q t m e =
-    ap (λ ks. ks ++ (if q.ended then [] else link.Plain ∷ [])) (left-fresh q.decision ts q t m)
-    ∙ ap (λ (b : Bool). links_of q.decision ts q ++ (if b then [] else link.Plain ∷ [])) e
+    ap (λ ks. ks ++ end_left q) (left-fresh q.decision ts q t m)
+    ∙ ap (λ (b : Bool). links_of q.decision ts q ++ (last_links q.last ++ (if b then [] else link.Plain ∷ []))) e
+    ∙ sym (append_assoc (links_of q.decision ts q) (last_links q.last) (link.Plain ∷ []))
+
+-- a plan without a last link
+pub body-alone : (ts : List Task) (q : Plan) → q.last ≡ None → body_of ts q ≡ links_of q.decision ts q
+body-alone ts q none = ap (λ o. links_of q.decision ts q ++ last_links o) none ∙ append-nil (links_of q.decision ts q)
 
 -- the end of a step changes nothing
 pub fit-end : (n : ℕ) (prios : List Prio) (ks : List Link) (l : Lists) → AreFit n prios ks l → AreFit n prios (ks ++ link.Plain ∷ []) l

@@ -1,11 +1,11 @@
--- The plan of a call that suspends a task or resumes one.
+-- The plan of a call that suspends a task, resumes one or yields.
 use Rattle.std.proofs.Common.{◌≡◌, ℕ, zero, suc, ◌<◌, ◌≤◌, ◌-◌, List, [], length, refl, sym, ap, ◌∙◌, subst, Bool, true, false, ◌&&◌, arith}
 use Rattle.std.specs.Prelude.{All, ◌==◌}
 use Rattle.std.proofs.lemmas.List.Elements.{All-nil}
 use Rattle.kern_base.specs.declared.numbers.Prio.{Prio}
 use Rattle.kern_base.specs.declared.services.Service.{Service}
-use Rattle.kern_base.specs.declared.services.Service.TheVariants.{TaskSuspend, TaskResume}
-use Rattle.kern_model.specs.State.{Kernel, Task, is_ready, is_zero, task_at, waits_for_nothing}
+use Rattle.kern_base.specs.declared.services.Service.TheVariants.{TaskSuspend, TaskResume, RoundRobinYield}
+use Rattle.kern_model.specs.State.{Kernel, Task, is_ready, is_zero, prio_of, task_at, waits_for_nothing}
 use Rattle.kern_model.specs.Micro.{Lists}
 use Rattle.kern_model.specs.Effect.{Effect}
 use Rattle.kern_model.specs.Tasks.{resumed_blocks, resumes, suspended_task, suspends, unready_blocks}
@@ -16,9 +16,10 @@ use Rattle.link_plans.specs.Fits.{AreKernels, IsNoded}
 use Rattle.link_plans.proofs.Lemmas.{block_fits, ready_nowhere}
 use Rattle.kernel_records.specs.Suspension.{suspension_of}
 use Rattle.kernel_records.proofs.SuspensionFacts.{IsMoving}
-use Rattle.kernel_calls.specs.Moving.{moved_links, resumed_links, unready_links}
+use Rattle.kernel_calls.specs.Moving.{links_moved, moved_links, resumed_links, unready_links}
 use Rattle.kernel_calls.specs.Stepping.{HasPrios, prios_over}
 use Rattle.kernel_calls.proofs.LinkFacts.{AreLinksOf}
+use Rattle.kernel_calls.proofs.RotationCase.{rotation-links}
 use Rattle.kernel_calls.proofs.StopFacts.{noded-task, prios-task}
 
 -- a task that leaves or joins its ready list changes no list of waiters, and no priority
@@ -92,11 +93,26 @@ module _ (k : Kernel) (l : Lists) (prios : List Prio) (v : IsLinked k) (a : AreK
         listed = subst (HasPrios (resumes (suc n) y h k).kernel) (sym (resumed-prios b n prios y t.prio h)) (prios-task f (λ u. refl) k (resumes (suc n) y h k).kernel y prios refl p);
       }
 
-  pub move-links : (s : Service) (x h : ℕ) → IsMoving s t → AreLinksOf (suspension_of s y x h k) (length k.objects) prios (moved_links s y h t) l
-  move-links TaskSuspend x h i = suspend-links (y == x)
-  move-links TaskResume x h i =
+  move-links : (s : Service) (x h : ℕ) → (s ≡ RoundRobinYield → ⊥) → IsMoving s t → AreLinksOf (suspension_of s y x h k) (length k.objects) prios (moved_links s y h t) l
+  move-links TaskSuspend x h o i = suspend-links (y == x)
+  move-links TaskResume x h o i =
       let b = waits_for_nothing t.waiting in
       let less : t.suspended - 1 ≡ i.0 = let e = i.1 in omega (arith, e) in
       subst (λ n. AreLinksOf (resumes n y h k) (length k.objects) prios (resumed_links b (t.suspended - 1) y t.prio h) l) (sym i.1)
       (subst (λ n. AreLinksOf (resumes (suc i.0) y h k) (length k.objects) prios (resumed_links b n y t.prio h) l) (sym less) (resume-links i.0 h i.1))
-  move-links _ x h i = absurd i
+  move-links RoundRobinYield x h o i = absurd (o refl)
+  move-links _ x h o i = absurd i
+
+suspend-other : TaskSuspend ≡ RoundRobinYield → ⊥
+suspend-other e = absurd cc
+
+resume-other : TaskResume ≡ RoundRobinYield → ⊥
+resume-other e = absurd cc
+
+-- a call of x, which names task y
+pub moved-links : (k : Kernel) (l : Lists) (prios : List Prio) → IsLinked k → AreKernels k l → HasPrios k prios → (s : Service) (y x h : ℕ) → ((s ≡ RoundRobinYield → ⊥) → y < 64)
+    → (s ≡ RoundRobinYield → (is_ready (task_at k x) ≡ true) × (x < 62)) → IsMoving s (task_at k y) → AreLinksOf (suspension_of s y x h k) (length k.objects) prios (links_moved s y x h k) l
+moved-links k l prios v a p RoundRobinYield y x h inside ready i = let r = ready refl in rotation-links k l prios v a p k x (prio_of k x) r.0 r.1 refl a.noded p
+moved-links k l prios v a p TaskSuspend y x h inside ready i = move-links k l prios v a p y (inside suspend-other) TaskSuspend x h suspend-other i
+moved-links k l prios v a p TaskResume y x h inside ready i = move-links k l prios v a p y (inside resume-other) TaskResume x h resume-other i
+moved-links k l prios v a p _ y x h inside ready i = absurd i

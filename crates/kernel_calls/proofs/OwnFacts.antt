@@ -8,7 +8,7 @@ use Rattle.kern_model.specs.State.{Task, task_in}
 use Rattle.kern_model.specs.FlagBits.{ready_bits}
 use Rattle.micro_steps.specs.declared.link.Link.{Link}
 use Rattle.micro_steps.specs.declared.link.Link.TheVariants as link
-use Rattle.link_plans.specs.Plans.{block_links, decision_left, leave_links, links_left, look_links, matching_left, matching_links, ready_links, wait_links, wake_links, wakes_left, wakes_links}
+use Rattle.link_plans.specs.Plans.{end_left, block_links, decision_left, leave_links, links_left, look_links, matching_left, matching_links, ready_links, wait_links, wake_links, wakes_left, wakes_links}
 use Rattle.link_plans.specs.declared.plan.Plan.{Plan}
 use Rattle.tcb_pool.specs.TaskView.{without_own}
 
@@ -65,7 +65,7 @@ decision-own (Wake All) ts q = wakes_left-own ts q.compared.0 q.made (drop q.tas
 decision-own (Wake Matching) ts q = matching_left-own ts q.bits q.compared.0 q.made (drop q.task q.woken.items)
 
 links-own : (ts : List Task) (q : Plan) → links_left (map without_own ts) q ≡ links_left ts q
-links-own ts q = ap (λ (ks : List Link). ks ++ (if q.ended then [] else link.Plain ∷ [])) (decision-own q.decision ts q)
+links-own ts q = ap (λ (ks : List Link). ks ++ end_left q) (decision-own q.decision ts q)
 
 -- the next link, and that none is left, as the records of all tasks tell it
 pub next-own : (ts us : List Task) (q p : Plan) (k : Link) → us ≡ map without_own ts → links_left us q ≡ k ∷ links_left us p → links_left ts q ≡ k ∷ links_left ts p

@@ -1,14 +1,14 @@
 -- A post of interrupt code is answered at once, and no table comes with its answer.
-use Rattle.std.specs.Prelude.{if◌then◌else◌, ◌==◌, ◌-◌, ◌+◌, ◌^◌}
+use Rattle.std.specs.Prelude.{if◌then◌else◌, ◌==◌, ◌-◌, ◌+◌, ◌^◌, nat_lt}
 use Rattle.std.proofs.Common.{◌≡◌, ℕ, List, [], ◌∷◌, refl, Bool, true, false, Option, Some, None}
 use Rattle.std.proofs.lemmas.Bool.{false≢true}
 use Rattle.kern_base.specs.declared.services.Service.{Service}
-use Rattle.kern_base.specs.declared.services.Service.TheVariants.{SemPost, QPost, FlagPost, TaskSemPost, TaskQPost, SemPend, QPend, FlagPend, TaskSemPend, TaskQPend, SchedLock, SchedUnlock, TimeGet, TimeDly, TimeDlyResume, SemPendAbort, QPendAbort, FlagPendAbort, TaskSemPendAbort, TaskQPendAbort, SemDel, QDel, FlagDel, TaskSuspend, TaskResume}
+use Rattle.kern_base.specs.declared.services.Service.TheVariants.{SemPost, QPost, FlagPost, TaskSemPost, TaskQPost, SemPend, QPend, FlagPend, TaskSemPend, TaskQPend, SchedLock, SchedUnlock, TimeGet, TimeDly, TimeDlyResume, SemPendAbort, QPendAbort, FlagPendAbort, TaskSemPendAbort, TaskQPendAbort, SemDel, QDel, FlagDel, TaskSuspend, TaskResume, TimeTick, RoundRobinYield, TmrStart, TmrStop, TmrRemainGet, TmrStateGet, TmrDel}
 use Rattle.kern_base.specs.declared.requests.Request.{Request}
 use Rattle.kern_base.specs.declared.errors.OsErr.{OsErr}
 use Rattle.kern_base.specs.declared.errors.OsErr.TheVariants.{SemOverflow, CallUnknown}
 use Rattle.kern_base.specs.declared.outcomes.Waiting.{Waiting}
-use Rattle.kern_base.specs.declared.outcomes.Waiting.TheVariants.{TaskSem, TaskQ}
+use Rattle.kern_base.specs.declared.outcomes.Waiting.TheVariants.{TaskSem, TaskQ, Signal}
 use Rattle.kern_base.specs.Services.{is_post}
 use Rattle.kern_base.specs.Checks.{IsPost}
 use Rattle.kern_model.specs.Call.{Call, call_of}
@@ -19,6 +19,8 @@ use Rattle.kern_model.specs.Flags.{flag_post}
 use Rattle.kern_model.specs.Options.{stores_first}
 use Rattle.kern_model.specs.Queues.{q_post, q_post_to, store_error, store_in, stored}
 use Rattle.kern_model.specs.Semaphores.{sem_post_to, sem_post}
+use Rattle.kern_model.specs.RoundRobin.{round_robin}
+use Rattle.kern_model.specs.Time.{signalled, signals_tick, time_tick}
 use Rattle.kern_model.specs.TaskObjects.{task_q_post_to, task_sem_post_to, task_store}
 use Rattle.kernel_calls.specs.Works.{IsPlainAnswer}
 use Rattle.served.specs.Served.{program_serves}
@@ -76,6 +78,15 @@ plain-task_q_post : (w : Waiting) (r : Request) (x h : ℕ) (k : Kernel) → Pla
 plain-task_q_post TaskQ r x h k = refl
 plain-task_q_post _ r x h k = plain-task_store (store_error _ (task_at k x).limit k.free) x (stored (stores_first (argument r 3)) (argument r 1, argument r 2) (task_at k x).messages) k
 
+plain-signalled : (w : Waiting) (x h : ℕ) (k : Kernel) → Plain (signalled w x h k)
+plain-signalled Signal x h k = refl
+plain-signalled _ x h k = refl
+
+plain-time_tick : (c h : ℕ) (k : Kernel) → Plain (time_tick c h k)
+plain-time_tick c h k =
+    let j = (round_robin c (signals_tick h k).kernel).kernel in
+    choice Plain (nat_lt (j.tick_calls + 1) j.settings.tmr_div) _ _ refl (plain-signalled (task_at j 61).waiting 61 h (record j { tick_calls = 0; timer_signals = j.timer_signals + 1 }))
+
 plain-perform : (s : Service) (call : Call) (k : Kernel) → program_serves s ≡ true → is_post s ≡ true → Plain (perform s call k)
 plain-perform SemPost call k e p = plain-sem_post (content_for call.request k) call.request call.compared k
 plain-perform QPost call k e p = plain-q_post (content_for call.request k) call.request call.compared k
@@ -102,6 +113,13 @@ plain-perform QDel call k e p = absurd (false≢true p)
 plain-perform FlagDel call k e p = absurd (false≢true p)
 plain-perform TaskSuspend call k e p = absurd (false≢true p)
 plain-perform TaskResume call k e p = absurd (false≢true p)
+plain-perform RoundRobinYield call k e p = absurd (false≢true p)
+plain-perform TmrStart call k e p = absurd (false≢true p)
+plain-perform TmrStop call k e p = absurd (false≢true p)
+plain-perform TmrRemainGet call k e p = absurd (false≢true p)
+plain-perform TmrStateGet call k e p = absurd (false≢true p)
+plain-perform TmrDel call k e p = absurd (false≢true p)
+plain-perform TimeTick call k e p = plain-time_tick call.interrupted call.compared k
 plain-perform _ call k e p = absurd (false≢true e)
 
 plain-checked : (o : Option OsErr) (call : Call) (k : Kernel) → program_serves call.request.service ≡ true → is_post call.request.service ≡ true → Plain (after_checks o call k)

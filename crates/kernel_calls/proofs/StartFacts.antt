@@ -11,7 +11,7 @@ use Rattle.app_image.specs.Layout.{HasWords}
 use Rattle.app_image.specs.declared.records.TaskDef.{TaskDef}
 use Rattle.kern_base.specs.declared.numbers.Prio.{Prio}
 use Rattle.kern_base.specs.declared.numbers.TaskId.{TaskId}
-use Rattle.kern_base.specs.declared.outcomes.Around.{Around}
+use Rattle.kernel_calls.specs.declared.seen.Seen.{Seen}
 use Rattle.kern_model.specs.Micro.{Halves, Lists, after, whole}
 use Rattle.kern_model.specs.Start.{object_of, ready_from, start_state, start_tasks, tasks_of}
 use Rattle.kern_model.specs.Valid.{IsLinked}
@@ -180,6 +180,7 @@ served-start i v =
     record {
       waits = each i v (λ x t. x < 60 → IsSingle t.waiting) (λ x h l. tt) (λ x g h l. tt) (λ l. absurd (omega arith)) (λ l. absurd (omega arith)) (λ l. tt) (λ x h l. tt);
       reads = each i v (λ x t. HasNoTable t.answered) (λ x h. tt) (λ x l h. tt) tt tt tt (λ x h. tt);
+      bases = each i v (λ x t. t.base ≡ t.prio) (λ x h. refl) (λ x l h. refl) refl refl refl (λ x h. refl);
     }
 
 pub linked_at_start : (i : ImageRecord) → IsValidImage i → HasWords i → IsLinked (start_state i)
@@ -209,7 +210,7 @@ module _ (i : ImageRecord) (v : IsValidImage i) (words : HasWords i) (r : Record
   unfolding start_lists
   no_node o = ap (λ (l : Lists). list_at l.pend o) found ∙ empty-at 64 o
 
-  pub started-sound : (q : Plan) (seen : Around) (w : WorkRecord) → IsSound r s q seen w false
+  pub started-sound : (q : Plan) (seen : Seen) (w : WorkRecord) → IsSound r s q seen w false
   started-sound q seen w =
       record {
         valid = started-linked;

@@ -10,9 +10,11 @@ use Rattle.kern_model.specs.Effect.{Effect}
 use Rattle.kern_model.specs.Micro.{Lists, Micro, lists_of}
 use Rattle.kern_model.specs.Call.{call_of}
 use Rattle.served.specs.Served.{program_serves}
-use Rattle.kern_model.specs.Services.{blocks, cost}
+use Rattle.kern_model.specs.Services.{blocks, cost, effect, unit_effect}
 use Rattle.kern_model.specs.Valid.{IsLinked, MayCall}
-use Rattle.kern_model.proofs.Lemmas.{cost-effect-le}
+use Rattle.kern_model.proofs.Lemmas.{cost-effect-le, cost-unit-le}
+use Rattle.std.specs.Prelude.{All, if◌then◌else◌}
+use Rattle.std.proofs.lemmas.List.Elements.{All-nil}
 use Rattle.micro_steps.specs.declared.link.Link.{Link}
 use Rattle.micro_steps.specs.Blocks.{rest}
 use Rattle.micro_steps.specs.Halfway.{left_of, on_tasks, to_go}
@@ -20,8 +22,10 @@ use Rattle.micro_steps.specs.Whole.{IsMidway, IsPaused, StepsRecord, task_blocks
 use Rattle.micro_steps.proofs.Seen.{some_left}
 use Rattle.link_plans.specs.Plans.{links_left}
 use Rattle.link_plans.specs.declared.plan.Plan.{Plan}
-use Rattle.kernel_calls.specs.Works.{MayBegin, WorkRecord, effect_of, stepped}
-use Rattle.kernel_calls.specs.Stepping.{HasPrios, IsHand, IsInHand, IsPlanned, IsResting, prios_over}
+use Rattle.kernel_calls.specs.Works.{MayBegin, WorkRecord, effect_of, stepped, unit_of}
+use Rattle.kernel_calls.specs.Ending.{Course, OfCall, OfTick, OfUnit, course_of}
+use Rattle.kernel_calls.specs.Stepping.{HasPrios, IsHand, IsInHand, IsPlanned, IsPlannedAs, IsResting, IsTickPlanned, IsUnitPlanned, MayWork, prios_over}
+use Rattle.kernel_calls.specs.declared.seen.Seen.{Seen}
 use Rattle.kernel_calls.specs.KernelView.{hand_of}
 
 -- the step in hand is the work, where the kernel is busy
@@ -33,13 +37,13 @@ pub free-of : (b : Bool) (v : WorkRecord) → hand_of b v ≡ None → b ≡ fal
 free-of true v h = absurd cc
 free-of false v h = refl
 
-pub in-hand : (b : Bool) (w : WorkRecord) (q : Plan) (seen : Around) (k : Kernel) (s : StepsRecord) → b ≡ true → IsHand b w q seen k s → IsInHand w q seen k s
+pub in-hand : (b : Bool) (w : WorkRecord) (q : Plan) (seen : Seen) (k : Kernel) (s : StepsRecord) → b ≡ true → IsHand b w q seen k s → IsInHand w q seen k s
 in-hand b w q seen k s e h = subst (λ c. IsHand c w q seen k s) e h
 
-pub hand-back : (b : Bool) (w : WorkRecord) (q : Plan) (seen : Around) (k : Kernel) (s : StepsRecord) → b ≡ true → IsInHand w q seen k s → IsHand b w q seen k s
+pub hand-back : (b : Bool) (w : WorkRecord) (q : Plan) (seen : Seen) (k : Kernel) (s : StepsRecord) → b ≡ true → IsInHand w q seen k s → IsHand b w q seen k s
 hand-back b w q seen k s e h = subst (λ c. IsHand c w q seen k s) (sym e) h
 
-pub at-rest : (b : Bool) (w : WorkRecord) (q : Plan) (seen : Around) (k : Kernel) (s : StepsRecord) → b ≡ false → IsHand b w q seen k s → IsResting k s
+pub at-rest : (b : Bool) (w : WorkRecord) (q : Plan) (seen : Seen) (k : Kernel) (s : StepsRecord) → b ≡ false → IsHand b w q seen k s → IsResting k s
 at-rest b w q seen k s e h = subst (λ c. IsHand c w q seen k s) e h
 
 -- a step never has more micro-steps than a counter holds
@@ -47,8 +51,21 @@ pub may-call : (w : WorkRecord) (k : Kernel) → MayBegin w.caller w.request k �
 may-call w k (inl m) n = m
 may-call w k (inr p) n = absurd (true≢false (sym p.1 ∙ n))
 
-pub few-steps : (w : WorkRecord) (k : Kernel) → IsLinked k → MayBegin w.caller w.request k → cost (effect_of w k) k ≤ 32000
-few-steps w k v m = cost-effect-le program_serves (call_of w.request w.caller w.interrupted w.compared) k v (may-call w k m)
+-- what a unit does
+pub unit-is : (x : ℕ) (k : Kernel) → unit_of x k ≡ unit_effect x k
+unfolding unit_of
+unit-is x k = refl
+
+-- what a work does, a unit or a call
+abbrev pub effect_as : Bool → WorkRecord → Kernel → Effect
+effect_as b w k = if b then unit_of w.caller k else effect program_serves (call_of w.request w.caller w.interrupted w.compared) k
+
+few-as : (b : Bool) (w : WorkRecord) (k : Kernel) → IsLinked k → MayWork b w k → cost (effect_as b w k) k ≤ 32000
+few-as true w k v m = subst (λ e. cost e k ≤ 32000) (sym (unit-is w.caller k)) (cost-unit-le w.caller k v)
+few-as false w k v m = cost-effect-le program_serves (call_of w.request w.caller w.interrupted w.compared) k v (may-call w k m)
+
+pub few-steps : (w : WorkRecord) (k : Kernel) → IsLinked k → MayWork w.unit w k → cost (effect_of w k) k ≤ 32000
+few-steps w k v m = few-as w.unit w k v m
 
 -- where a block is in hand, micro-steps are left
 pub left-below : (ms : List Micro) (l : Lists) (i : ℕ) (ks : List Link) (end : Lists) (s : StepsRecord) → IsMidway ms l i ks end s → i < length ms
@@ -101,15 +118,63 @@ planned-next w q p seen k e h =
       objects_below = rw e.objects h.objects_below;
     }
 
+tick-next : (w : WorkRecord) (q p : Plan) (seen : Seen) (k : Kernel) → IsSamePlan q p → IsTickPlanned w q seen k → IsTickPlanned (stepped w) p seen k
+tick-next w q p seen k e h =
+    record {
+      turn = h.turn;
+      inside = h.inside;
+      room = h.room;
+      caller = rw e.caller h.caller;
+      woken = rw e.woken h.woken;
+      objects = rw e.objects h.objects;
+    }
+
+unit-next : (w : WorkRecord) (q p : Plan) (k : Kernel) → IsSamePlan q p → IsUnitPlanned w q k → IsUnitPlanned (stepped w) p k
+unit-next w q p k e h =
+    record {
+      woken = rw e.woken h.woken;
+      woken_below = rw e.woken h.woken_below;
+      caller = rw e.caller h.caller;
+      objects = rw e.objects h.objects;
+    }
+
+planned-as-next : (c : Course) (w : WorkRecord) (q p : Plan) (seen : Seen) (k : Kernel) → IsSamePlan q p → IsPlannedAs c w q seen k → IsPlannedAs c (stepped w) p seen k
+planned-as-next OfCall w q p seen k e h = planned-next w q p seen.around k e h
+planned-as-next OfTick w q p seen k e h = tick-next w q p seen k e h
+planned-as-next OfUnit w q p seen k e h = unit-next w q p k e h
+
+-- the numbers of a plan are within their bounds
+pub record IsPlanInside (q : Plan) : Type 0 where
+  pub caller : q.caller.0 < 64
+  pub objects : All (λ o. o < 64) q.objects.items
+  pub woken : All (λ x. x < 64) q.woken.items
+
+inside-as : (c : Course) (w : WorkRecord) (q : Plan) (seen : Seen) (k : Kernel) → w.caller < 64 → IsPlannedAs c w q seen k → IsPlanInside q
+inside-as OfCall w q seen k low h = record { caller = subst (λ x. x < 64) (sym h.caller) low; objects = h.objects_below; woken = h.woken_below }
+inside-as OfTick w q seen k low h =
+    record {
+      caller = h.caller;
+      objects = subst (All (λ o. o < 64)) (sym h.objects) (All-nil (λ o. o < 64));
+      woken = subst (All (λ x. x < 64)) (sym h.woken) (All-nil (λ x. x < 64));
+    }
+inside-as OfUnit w q seen k low h = record { caller = h.caller; objects = subst (All (λ o. o < 64)) (sym h.objects) (All-nil (λ o. o < 64)); woken = h.woken_below }
+
+pub plan-inside : (w : WorkRecord) (q : Plan) (seen : Seen) (k : Kernel) (s : StepsRecord) → IsInHand w q seen k s → IsPlanInside q
+plan-inside w q seen k s h = inside-as (course_of w) w q seen k h.caller h.planned
+
+may-next : (b : Bool) (w : WorkRecord) (k : Kernel) → MayWork b w k → MayWork b (stepped w) k
+may-next true w k m = m
+may-next false w k m = m
+
 -- a micro-step later, in the same block or in the next one
-pub hand-next : (w : WorkRecord) (q p : Plan) (seen : Around) (k : Kernel) (s t : StepsRecord) (h : IsInHand w q seen k s) → IsSamePlan q p
+pub hand-next : (w : WorkRecord) (q p : Plan) (seen : Seen) (k : Kernel) (s t : StepsRecord) (h : IsInHand w q seen k s) → IsSamePlan q p
     → IsMidway (blocks (effect_of w k) k) (lists_of k) (w.done + 1) (links_left k.tasks p) h.end t
     → prios_over (links_left k.tasks p) t.prios ≡ prios_over (links_left k.tasks q) s.prios → IsInHand (stepped w) p seen k t
 hand-next w q p seen k s t h e m n =
     record {
       caller = h.caller;
-      may = h.may;
-      planned = planned-next w q p seen k e h.planned;
+      may = may-next w.unit w k h.may;
+      planned = planned-as-next (course_of w) w q p seen k e h.planned;
       open_yet = below-cost (effect_of w k) k (w.done + 1) (left-below (blocks (effect_of w k) k) (lists_of k) (w.done + 1) (links_left k.tasks p) h.end t m);
       end = h.end;
       midway = m;

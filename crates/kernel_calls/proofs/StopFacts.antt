@@ -5,7 +5,7 @@ use Rattle.kern_base.specs.declared.errors.OsErr.TheVariants.{NoError}
 use Rattle.kern_base.specs.declared.numbers.Prio.{Prio}
 use Rattle.kern_base.specs.declared.services.Service.{Service}
 use Rattle.kern_base.specs.declared.services.Service.TheVariants.{FlagPend}
-use Rattle.kern_base.specs.declared.outcomes.Around.{Around}
+use Rattle.kernel_calls.specs.declared.seen.Seen.{Seen}
 use Rattle.kern_base.specs.declared.outcomes.Finished.{Finished}
 use Rattle.kern_model.specs.State.{Kernel, Object, Task, is_ready, no_task, place_of, prio_of, task_at, update_list, update_task, without}
 use Rattle.kern_model.specs.Finish.{consumed_in, finished, finished_with, flags_consumed}
@@ -25,11 +25,11 @@ use Rattle.kernel_calls.specs.Works.{WorkRecord}
 use Rattle.kernel_calls.proofs.ServedFacts.{served-task}
 
 -- nothing is in hand
-pub resting : (busy : Bool) (w : WorkRecord) (q : Plan) (seen : Around) (k : Kernel) (s : StepsRecord) → hand_of busy w ≡ None → IsHand busy w q seen k s → IsResting k s
+pub resting : (busy : Bool) (w : WorkRecord) (q : Plan) (seen : Seen) (k : Kernel) (s : StepsRecord) → hand_of busy w ≡ None → IsHand busy w q seen k s → IsResting k s
 resting true w q seen k s free hand = cc
 resting false w q seen k s free hand = hand
 
-pub rests : (busy : Bool) (w : WorkRecord) (q : Plan) (seen : Around) (k : Kernel) (s : StepsRecord) → hand_of busy w ≡ None → IsResting k s → IsHand busy w q seen k s
+pub rests : (busy : Bool) (w : WorkRecord) (q : Plan) (seen : Seen) (k : Kernel) (s : StepsRecord) → hand_of busy w ≡ None → IsResting k s → IsHand busy w q seen k s
 rests true w q seen k s free rest = cc
 rests false w q seen k s free rest = rest
 
@@ -73,7 +73,7 @@ module _ (r t : RecordsRecord) (s : StepsRecord) (x : ℕ) (f : Finished) (waits
   pub finished-same : state_with t.state s.start ≡ finished x (state_with r.state s.start)
   finished-same = finished-state ∙ sym (finished-read x (state_with r.state s.start) f waits)
 
-  module _ (q : Plan) (seen : Around) (w : WorkRecord) (busy : Bool) (sound : IsSound r s q seen w busy) (free : hand_of busy w ≡ None) where
+  module _ (q : Plan) (seen : Seen) (w : WorkRecord) (busy : Bool) (sound : IsSound r s q seen w busy) (free : hand_of busy w ≡ None) where
     pub finished-linked : IsLinked (state_with t.state s.start)
     finished-linked = subst IsLinked (sym finished-same) (linked-finished x (state_with r.state s.start) sound.valid)
 
@@ -87,13 +87,13 @@ module _ (r t : RecordsRecord) (s : StepsRecord) (x : ℕ) (f : Finished) (waits
         let rest = resting busy w q seen k s free sound.hand in
         record {
           valid = finished-linked;
-          served = served-task k j x cleared_task tasks (λ l. sound.served.waits x l) tt sound.served;
+          served = served-task k j x cleared_task tasks (λ l. sound.served.waits x l) tt (sound.served.bases x) sound.served;
           nodes = subst (λ i. AreNodes i s.start) (sym finished-state) nodes;
           hand = rests busy w q seen j s free (record { halves = rest.halves; prios = prios-task cleared_task (λ u. refl) k j x s.prios tasks rest.prios });
         }
 
 -- the kernel after a task stopped
-module _ (r t : RecordsRecord) (s m : StepsRecord) (q : Plan) (seen : Around) (w : WorkRecord) (busy : Bool) (sound : IsSound r s q seen w busy) (free : hand_of busy w ≡ None) (x p : ℕ) (inside : x < 60) (ready : is_ready (task_at r.state x) ≡ true) (quiet : r.state.processing ≡ false) (prio_is : p ≡ prio_of r.state x) (is : t.state ≡ without_lists (stopped x r.state)) (halves : m.halves ≡ whole (record { ready = update_list s.halves.forward.ready p (without x); pend = s.halves.forward.pend })) (start : m.start ≡ m.halves.forward) (prios : m.prios ≡ s.prios) where
+module _ (r t : RecordsRecord) (s m : StepsRecord) (q : Plan) (seen : Seen) (w : WorkRecord) (busy : Bool) (sound : IsSound r s q seen w busy) (free : hand_of busy w ≡ None) (x p : ℕ) (inside : x < 60) (ready : is_ready (task_at r.state x) ≡ true) (quiet : r.state.processing ≡ false) (prio_is : p ≡ prio_of r.state x) (is : t.state ≡ without_lists (stopped x r.state)) (halves : m.halves ≡ whole (record { ready = update_list s.halves.forward.ready p (without x); pend = s.halves.forward.pend })) (start : m.start ≡ m.halves.forward) (prios : m.prios ≡ s.prios) where
   stopped-start : m.start ≡ record { ready = update_list s.start.ready (prio_of r.state x) (without x); pend = s.start.pend }
   stopped-start =
       start
@@ -118,7 +118,7 @@ module _ (r t : RecordsRecord) (s m : StepsRecord) (q : Plan) (seen : Around) (w
       let whole_now : m.halves ≡ whole m.start = halves ∙ ap whole (sym (start ∙ ap (λ (h : Halves). h.forward) halves)) in
       record {
         valid = stopped-linked;
-        served = served-task k j x stopped_task tasks (λ l. sound.served.waits x l) (sound.served.reads x) sound.served;
+        served = served-task k j x stopped_task tasks (λ l. sound.served.waits x l) (sound.served.reads x) (sound.served.bases x) sound.served;
         nodes = subst (λ i. AreNodes i m.start) (sym stopped-state) nodes;
         hand = rests busy w q seen j m free (record { halves = whole_now; prios = subst (HasPrios j) (sym prios) (prios-task stopped_task (λ u. refl) k j x s.prios tasks rest.prios) });
       }

@@ -1,12 +1,16 @@
 -- Who waits for what a call is about: application tasks, of which none stands twice.
-use Rattle.std.proofs.Common.{◌≡◌, ℕ, ◌≤◌, [], ◌∷◌, refl, sym, ◌∙◌, subst, inl, inr, arith, Bool, true, false, not}
+use Rattle.std.proofs.Common.{◌≡◌, ℕ, ◌≤◌, List, [], ◌∷◌, refl, sym, ap, ◌∙◌, subst, inl, inr, arith, Bool, true, false, not}
 use Rattle.std.specs.Prelude.{if◌then◌else◌, ◌&&◌}
-use Rattle.std.proofs.lemmas.Bool.{true≢false}
+use Rattle.std.proofs.lemmas.Bool.{false≢true, true≢false}
 use Rattle.std.proofs.lemmas.Bool.Decides.{eqb_tells, leb_tells}
 use Rattle.std.proofs.lemmas.List.{get_or_past}
 use Rattle.kern_base.specs.declared.services.Service.{Service}
-use Rattle.kern_base.specs.declared.services.Service.TheVariants.{TaskQPost, TaskQPend, TaskQPendAbort, TimeDlyResume}
+use Rattle.kern_base.specs.declared.services.Service.TheVariants.{TaskQPost, TaskQPend, TaskQPendAbort, TimeDlyResume, RoundRobinYield, FlagPost}
 use Rattle.kern_base.specs.declared.requests.Request.{Request}
+use Rattle.kern_base.specs.declared.outcomes.Decision.{Decision}
+use Rattle.kern_base.specs.declared.outcomes.Decision.TheVariants.{Done, Block, Wake}
+use Rattle.kern_base.specs.declared.outcomes.Who.{Who}
+use Rattle.kern_base.specs.declared.outcomes.Who.TheVariants.{First, All, Matching}
 use Rattle.kern_base.specs.declared.outcomes.Waiting.{Waiting}
 use Rattle.kern_base.specs.declared.outcomes.Waiting.TheVariants.{No, Delay, Obj, TaskSem, TaskQ, Multi, Signal}
 use Rattle.kern_model.specs.State.{Kernel, Task, no_task, task_at, is_zero, waits_for_nothing}
@@ -16,7 +20,8 @@ use Rattle.kern_model.specs.Valid.{AllWait, IsLinked}
 use Rattle.kern_model.proofs.Lemmas.{AllWait-pend, and_first, and_second}
 use Rattle.task_objects.specs.Rows.{is_task_call, target, waits_for_it}
 use Rattle.tick_timers.specs.Delays.{is_delayed}
-use Rattle.kernel_records.specs.Deciding.{waiters_of}
+use Rattle.kernel_records.specs.Deciding.{IsServedDecision, waiters_of}
+use Rattle.kernel_records.specs.Served.{is_served_wake, may_wake_all}
 use Rattle.kernel_records.specs.SchedulerCalls.{is_scheduler_call, scheduler_waiters}
 use Rattle.kernel_records.proofs.RowFacts.{waiters-object, waiters-scheduler, waiters-task}
 
@@ -105,9 +110,10 @@ AllWait-delayed : (b : Bool) (y : ℕ) (k : Kernel) → IsLinked k → is_delaye
 AllWait-delayed false y k v e = tt
 AllWait-delayed true y k v e = AllWait-one y k v (delay-waits (task_at k y).waiting e)
 
-AllWait-scheduler : (s : Service) (r : Request) (x : ℕ) (k : Kernel) → IsLinked k → AllWait k (scheduler_waiters s r x k)
-AllWait-scheduler TimeDlyResume r x k v = let y = named_task r x in AllWait-delayed (is_delayed (task_at k y).waiting) y k v refl
-AllWait-scheduler _ r x k v = tt
+AllWait-scheduler : (s : Service) (r : Request) (x : ℕ) (k : Kernel) → (s ≡ RoundRobinYield → ⊥) → IsLinked k → AllWait k (scheduler_waiters s r x k)
+AllWait-scheduler TimeDlyResume r x k o v = let y = named_task r x in AllWait-delayed (is_delayed (task_at k y).waiting) y k v refl
+AllWait-scheduler RoundRobinYield r x k o v = absurd (o refl)
+AllWait-scheduler _ r x k o v = tt
 
 AllWait-objects : (b : Bool) (r : Request) (x : ℕ) (k : Kernel) → IsLinked k → is_scheduler_call r.service ≡ false → is_task_call r.service ≡ b → AllWait k (waiters_of r x k)
 AllWait-objects true r x k v n t =
@@ -115,9 +121,25 @@ AllWait-objects true r x k v n t =
     subst (AllWait k) (sym (waiters-task r x k n t)) (AllWait-if (waits_for_it r.service (task_at k y).waiting) r.service y k v refl)
 AllWait-objects false r x k v n t = subst (AllWait k) (sym (waiters-object r x k n t)) (AllWait-pend k v (argument r 0))
 
-AllWait-by : (b : Bool) (r : Request) (x : ℕ) (k : Kernel) → IsLinked k → is_scheduler_call r.service ≡ b → AllWait k (waiters_of r x k)
-AllWait-by true r x k v n = subst (AllWait k) (sym (waiters-scheduler r x k n)) (AllWait-scheduler r.service r x k v)
-AllWait-by false r x k v n = AllWait-objects (is_task_call r.service) r x k v n refl
+AllWait-by : (b : Bool) (r : Request) (x : ℕ) (k : Kernel) → (r.service ≡ RoundRobinYield → ⊥) → IsLinked k → is_scheduler_call r.service ≡ b → AllWait k (waiters_of r x k)
+AllWait-by true r x k o v n = subst (AllWait k) (sym (waiters-scheduler r x k n)) (AllWait-scheduler r.service r x k o v)
+AllWait-by false r x k o v n = AllWait-objects (is_task_call r.service) r x k v n refl
 
-pub AllWait-waiters : (r : Request) (x : ℕ) (k : Kernel) → IsLinked k → AllWait k (waiters_of r x k)
-AllWait-waiters r x k v = AllWait-by (is_scheduler_call r.service) r x k v refl
+-- a yield wakes nobody
+wakes-other : (who : Who) (s : Service) → IsServedDecision (Wake who) s → s ≡ RoundRobinYield → ⊥
+wakes-other First s h e = false≢true (sym (ap is_served_wake e) ∙ h)
+wakes-other All s h e = false≢true (sym (ap may_wake_all e) ∙ h)
+wakes-other Matching s h e = other (sym h ∙ e)
+  where
+    other : FlagPost ≡ RoundRobinYield → ⊥
+    other f = absurd cc
+
+-- Those wait that a decision wakes.
+abbrev pub AreWaiting : Decision → Kernel → List ℕ → Type 0
+AreWaiting (Wake who) k xs = AllWait k xs
+AreWaiting d k xs = Unit {0}
+
+pub AllWait-woken : (d : Decision) (r : Request) (x : ℕ) (k : Kernel) → IsServedDecision d r.service → IsLinked k → AreWaiting d k (waiters_of r x k)
+AllWait-woken (Done a) r x k s v = tt
+AllWait-woken Block r x k s v = tt
+AllWait-woken (Wake who) r x k s v = AllWait-by (is_scheduler_call r.service) r x k (wakes-other who r.service s) v refl

@@ -3,8 +3,8 @@ use Rattle.std.proofs.Common.{◌≡◌, ℕ, ◌<◌, ◌≤◌, List, [], ◌�
 use Rattle.std.specs.Prelude.{false}
 use Rattle.std.proofs.lemmas.Bool.Decides.{eqb_tells}
 use Rattle.kern_base.specs.declared.numbers.Prio.{Prio}
-use Rattle.kern_base.specs.declared.requests.Request.{Request}
-use Rattle.kern_model.specs.State.{Kernel, count_of, prio_of, task_at, waits_for_nothing}
+use Rattle.kern_base.specs.declared.outcomes.Finished.{Finished}
+use Rattle.kern_model.specs.State.{Kernel, Task, count_of, prio_of, task_at, waits_for_nothing}
 use Rattle.kern_model.specs.Micro.{Lists}
 use Rattle.kern_model.specs.Effect.{wakes, wakes_all, wakes_blocks}
 use Rattle.kern_model.specs.Valid.{AllWait, IsLinked}
@@ -14,7 +14,6 @@ use Rattle.micro_steps.specs.Whole.{AreFit, lists_after, task_blocks}
 use Rattle.link_plans.specs.Fits.{AreKernels, IsNoded}
 use Rattle.link_plans.specs.Plans.{wakes_links}
 use Rattle.link_plans.proofs.Lemmas.{wakes_keep_prios, wakes_keep, waiter_can_wake, wakes-row, all_wakes_fit}
-use Rattle.kernel_records.specs.Concluding.{handing}
 use Rattle.kernel_calls.specs.Stepping.{HasPrios, prios_over}
 use Rattle.kernel_calls.proofs.LinkFacts.{over-past}
 
@@ -39,15 +38,15 @@ one-waiting k (y ∷ ys) w x i =
       | inr d ↦ one-waiting k ys w.3 x (let j = rw d.0 at i in omega arith)
     ]
 
-objects-all : (f : Request) (h : ℕ) (xs : List ℕ) (k : Kernel) (y : ℕ) → (task_at (wakes_all (handing f) h xs k) y).objects ≡ (task_at k y).objects
+pub objects-all : (f : Task → Finished) (h : ℕ) (xs : List ℕ) (k : Kernel) (y : ℕ) → (task_at (wakes_all f h xs k) y).objects ≡ (task_at k y).objects
 objects-all f h [] k y = refl
-objects-all f h (x ∷ xs) k y = objects-all f h xs (wakes (handing f (task_at k x)) h x k) y ∙ objects-wakes (handing f (task_at k x)) h x k y
+objects-all f h (x ∷ xs) k y = objects-all f h xs (wakes (f (task_at k x)) h x k) y ∙ objects-wakes (f (task_at k x)) h x k y
 
-prios-all : (f : Request) (h : ℕ) (xs : List ℕ) (k : Kernel) (y : ℕ) → prio_of (wakes_all (handing f) h xs k) y ≡ prio_of k y
+pub prios-all : (f : Task → Finished) (h : ℕ) (xs : List ℕ) (k : Kernel) (y : ℕ) → prio_of (wakes_all f h xs k) y ≡ prio_of k y
 prios-all f h [] k y = refl
-prios-all f h (x ∷ xs) k y = prios-all f h xs (wakes (handing f (task_at k x)) h x k) y ∙ prio_of-wakes (handing f (task_at k x)) h x k y
+prios-all f h (x ∷ xs) k y = prios-all f h xs (wakes (f (task_at k x)) h x k) y ∙ prio_of-wakes (f (task_at k x)) h x k y
 
-module _ (r : Request) (h : ℕ) (xs : List ℕ) (k : Kernel) (l : Lists) (prios : List Prio) (v : IsLinked k) (a : AreKernels k l) (w : AllWait k xs) where
+module _ (f : Task → Finished) (h : ℕ) (xs : List ℕ) (k : Kernel) (l : Lists) (prios : List Prio) (v : IsLinked k) (a : AreKernels k l) (w : AllWait k xs) where
   pub wake-fits : AreFit (length k.objects) prios (wakes_links k.tasks h xs) l
   wake-fits =
       all_wakes_fit (length k.objects) prios k.tasks h xs l (once-waiting k xs w)
@@ -56,8 +55,8 @@ module _ (r : Request) (h : ℕ) (xs : List ℕ) (k : Kernel) (l : Lists) (prios
   pub wake-blocks : task_blocks prios (wakes_links k.tasks h xs) ≡ wakes_blocks k h xs
   wake-blocks = wakes-row prios k h xs (λ x. (v.tasks.each_task x).few)
 
-  pub wake-nodes : IsNoded (wakes_all (handing r) h xs k).tasks (lists_after prios (wakes_links k.tasks h xs) l).pend
-  wake-nodes = wakes_keep prios k.tasks (wakes_all (handing r) h xs k).tasks h xs l (objects-all r h xs k) a.noded
+  pub wake-nodes : IsNoded (wakes_all f h xs k).tasks (lists_after prios (wakes_links k.tasks h xs) l).pend
+  wake-nodes = wakes_keep prios k.tasks (wakes_all f h xs k).tasks h xs l (objects-all f h xs k) a.noded
 
-  pub wake-prios : HasPrios k prios → HasPrios (wakes_all (handing r) h xs k) (prios_over (wakes_links k.tasks h xs) prios)
-  wake-prios p = λ y. ap (λ ps. prio_in ps y) (over-past (wakes_links k.tasks h xs) prios ∙ wakes_keep_prios prios k.tasks h xs) ∙ p y ∙ sym (prios-all r h xs k y)
+  pub wake-prios : HasPrios k prios → HasPrios (wakes_all f h xs k) (prios_over (wakes_links k.tasks h xs) prios)
+  wake-prios p = λ y. ap (λ ps. prio_in ps y) (over-past (wakes_links k.tasks h xs) prios ∙ wakes_keep_prios prios k.tasks h xs) ∙ p y ∙ sym (prios-all f h xs k y)

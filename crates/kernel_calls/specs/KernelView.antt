@@ -4,7 +4,7 @@ use Rattle.kern_model.specs.State.{Kernel}
 use Rattle.kern_model.specs.Micro.{Lists}
 use Rattle.kern_model.specs.Valid.{IsLinked}
 use Rattle.micro_steps.specs.Halfway.{seen_lists}
-use Rattle.kern_base.specs.declared.outcomes.Around.{Around}
+use Rattle.kernel_calls.specs.declared.seen.Seen.{Seen}
 use Rattle.micro_steps.specs.Whole.{StepsRecord}
 use Rattle.link_plans.specs.declared.plan.Plan.{Plan}
 use Rattle.kernel_records.specs.RecordsRecord.{RecordsRecord, with_lists}
@@ -25,7 +25,7 @@ abbrev pub kernel_of : RecordsRecord → StepsRecord → WorkRecord → Bool →
 kernel_of r s w busy = record { state = state_with r.state s.start; registers = r.registers; hand = hand_of busy w }
 
 -- what is always true of the fields
-pub record IsSound (r : RecordsRecord) (s : StepsRecord) (q : Plan) (seen : Around) (w : WorkRecord) (busy : Bool) : Type 0 where
+pub record IsSound (r : RecordsRecord) (s : StepsRecord) (q : Plan) (seen : Seen) (w : WorkRecord) (busy : Bool) : Type 0 where
   pub valid : IsLinked (state_with r.state s.start)
   pub served : IsServed (state_with r.state s.start)
   pub nodes : AreNodes (state_with r.state s.start) s.start

@@ -20,7 +20,11 @@ use Rattle.decisions.specs.Around.{IsAround}
 use Rattle.kernel_records.specs.Deciding.{IsServedDecision, decision_of, effect_by, waiters_of}
 use Rattle.kernel_records.specs.Concluding.{bits_left, objects_waited, woken_of}
 use Rattle.kernel_calls.specs.Moving.{known_links}
-use Rattle.kernel_calls.specs.Works.{MayBegin, WorkRecord, effect_of}
+use Rattle.kernel_calls.specs.Works.{MayBegin, MayRunUnit, WorkRecord, effect_of}
+use Rattle.kernel_calls.specs.Ticking.{tick_turn, unit_woken}
+use Rattle.kernel_calls.specs.Ending.{Course, OfCall, OfTick, OfUnit, course_of}
+use Rattle.kernel_records.specs.Ticks.{HasRoom, IsInside}
+use Rattle.kernel_calls.specs.declared.seen.Seen.{Seen}
 
 -- the present priorities of all tasks are these
 abbrev pub HasPrios : Kernel → List Prio → Type 0
@@ -62,12 +66,39 @@ pub record IsPlanned (w : WorkRecord) (q : Plan) (seen : Around) (k : Kernel) : 
   pub woken_below : All (λ x. x < 64) q.woken.items
   pub objects_below : All (λ o. o < 64) q.objects.items
 
+-- What is planned of OSTimeTick: the turn that was seen is that of the interrupted priority, and one more signal can be counted.
+pub record IsTickPlanned (w : WorkRecord) (q : Plan) (seen : Seen) (k : Kernel) : Type 0 where
+  pub turn : seen.turn ≡ tick_turn w.interrupted w.compared k
+  pub inside : IsInside seen.turn
+  pub room : HasRoom k
+  pub caller : q.caller.0 < 64
+  pub woken : q.woken.items ≡ []
+  pub objects : q.objects.items ≡ []
+
+-- What is planned of a unit: those are woken whose match is the next tick.
+pub record IsUnitPlanned (w : WorkRecord) (q : Plan) (k : Kernel) : Type 0 where
+  pub woken : q.woken.items ≡ unit_woken w.caller k
+  pub woken_below : All (λ x. x < 64) q.woken.items
+  pub caller : q.caller.0 < 64
+  pub objects : q.objects.items ≡ []
+
+-- what is planned of a work
+abbrev pub IsPlannedAs : Course → WorkRecord → Plan → Seen → Kernel → Type 0
+IsPlannedAs OfCall w q seen k = IsPlanned w q seen.around k
+IsPlannedAs OfTick w q seen k = IsTickPlanned w q seen k
+IsPlannedAs OfUnit w q seen k = IsUnitPlanned w q k
+
+-- who has begun: one who may begin a call, or a unit
+abbrev pub MayWork : Bool → WorkRecord → Kernel → Type 0
+MayWork true w k = MayRunUnit w.caller k
+MayWork false w k = MayBegin w.caller w.request k
+
 -- A whole step in hand: of its micro-steps so many are made, the others are those of the block in hand and of the links that are
 -- left of the plan, and these end with lists of nodes that fit the kernel after the step.
-pub record IsInHand (w : WorkRecord) (q : Plan) (seen : Around) (k : Kernel) (s : StepsRecord) : Type 0 where
+pub record IsInHand (w : WorkRecord) (q : Plan) (seen : Seen) (k : Kernel) (s : StepsRecord) : Type 0 where
   pub caller : w.caller < 64
-  pub may : MayBegin w.caller w.request k
-  pub planned : IsPlanned w q seen k
+  pub may : MayWork w.unit w k
+  pub planned : IsPlannedAs (course_of w) w q seen k
   pub open_yet : w.done < cost (effect_of w k) k
   pub end : Lists
   pub midway : IsMidway (blocks (effect_of w k) k) (lists_of k) w.done (links_left k.tasks q) end s
@@ -79,6 +110,6 @@ pub record IsResting (k : Kernel) (s : StepsRecord) : Type 0 where
   pub halves : s.halves ≡ whole s.start
   pub prios : HasPrios k s.prios
 
-abbrev pub IsHand : Bool → WorkRecord → Plan → Around → Kernel → StepsRecord → Type 0
+abbrev pub IsHand : Bool → WorkRecord → Plan → Seen → Kernel → StepsRecord → Type 0
 IsHand true w q seen k s = IsInHand w q seen k s
 IsHand false w q seen k s = IsResting k s

@@ -1,12 +1,13 @@
 // The kernel.
 
 ghost use Rattle.std.specs.Prelude.{◌≡◌, ◌<◌, true, false, Some, None, List, length, map, slice_set, slice_index_or, is_none, MatchOption};
-ghost use Rattle.kern_model.specs.State.{Task, task_at, pick, is_ready, kinds_of};
+ghost use Rattle.kern_model.specs.State.{Task, task_at, object_at, pick, is_ready, kinds_of};
 ghost use Rattle.micro_steps.specs.Halfway.{seen};
 ghost use Rattle.kern_model.specs.Valid.{IsLinked, has_result};
 ghost use Rattle.kern_model.specs.Finish.{finished};
-ghost use Rattle.kern_model.specs.Stop.{stopped};
-ghost use Rattle.machine_model.specs.Steps.{some_readied};
+ghost use Rattle.kern_model.specs.Stop.{callback_ended, stopped};
+ghost use Rattle.machine_model.specs.Steps.{after_fire, some_readied};
+ghost use Rattle.kernel_records.specs.Ticks.{HasRoom};
 ghost use Rattle.machine_model.specs.Answers.{size_of, with_answer};
 ghost use Rattle.tcb_pool.specs.TaskView.{task_of, without_own};
 ghost use Rattle.rv32_exec.specs.Exec.{exec};
@@ -14,8 +15,10 @@ ghost use Rattle.rv32_exec.specs.Registers.{no_registers};
 ghost use Rattle.kernel_calls.specs.KernelRecord.{halves_in, with_state};
 
 use crate::making::make;
+use crate::seen::Seen;
 use crate::work::Work;
-use kern_base::{Answer, Around, Finished, Kinds, Prio, Service, TaskId};
+use app_image::Config;
+use kern_base::{Answer, Finished, Kinds, ObjId, Prio, Service, TaskId};
 use kernel_records::Records;
 use link_plans::Plan;
 use links::Links;
@@ -34,7 +37,7 @@ pub struct Kernel<L: Links> {
     pub(crate) records: Records,
     pub(crate) steps: Steps<L>,
     pub(crate) plan: Plan,
-    pub(crate) seen: Around,
+    pub(crate) seen: Seen,
     pub(crate) work: Work,
     pub(crate) busy: bool,
 }
@@ -173,5 +176,36 @@ impl<L: Links> Kernel<L> {
         let prio = self.records.tcb(task).prio;
         make(&mut self.steps, Link::Unready(task, prio));
         self.records.stop(task);
+    }
+
+    /// Whether a callback of a timer runs.
+    pub fn in_callback(&self) -> bool
+        ensures { result ≡ self.now.state.in_callback }
+    {
+        self.records.in_callback()
+    }
+
+    /// The callback of a timer that has fired begins, where it has one: the registers of the timer task are those of its start.
+    pub fn enter_callback(&mut self, timer: ObjId, config: &Config)
+        ensures { self.new ≡ record self.old { registers = after_fire config.now timer.0 (object_at self.old.state timer.0).content self.old.registers } }
+    {
+        self.records.enter_callback(timer, config);
+    }
+
+    /// A callback ends, by its return or by a trap: the timer task goes on under its own lock.
+    pub fn end_callback(&mut self)
+        requires free { self.old.hand ≡ None }
+        requires runs { self.old.state.in_callback ≡ true }
+        ensures kernel { self.new ≡ with_state self.old (callback_ended self.old.state) }
+        ensures valid { IsLinked self.new.state }
+    {
+        self.records.end_callback();
+    }
+
+    /// Whether there is room to count one more signal of the tick task and of the timer task, as `OSTimeTick` does.
+    pub fn has_room(&self) -> bool
+        ensures { result ≡ true → HasRoom self.now.state }
+    {
+        self.records.has_room()
     }
 }

@@ -1,6 +1,7 @@
 // What is planned of a call when it begins.
 
 ghost use Rattle.std.specs.Prelude.{◌≡◌, ◌<◌, ◌∷◌, ℕ, List, [], All, MatchOption, true, false, slice_index};
+ghost use Rattle.kern_base.specs.declared.services.Service.TheVariants.{RoundRobinYield};
 ghost use Rattle.kern_model.specs.State.{list_at};
 ghost use Rattle.kern_model.specs.Checks.{named_task};
 ghost use Rattle.micro_steps.specs.Halfway.{tasks_in};
@@ -38,6 +39,7 @@ pub(crate) fn no_plan() -> Plan {
         objects: ArrayVec::new(),
         woken: ArrayVec::new(),
         known: ArrayVec::new(),
+        last: None,
         bits: 0,
         task: 0,
         made: 0,
@@ -86,6 +88,7 @@ pub(crate) fn plan_call<L: Links>(
         → plan.new.woken.items ≡ woken_of decision xs }
     ensures objects { plan.new.objects.items ≡ objects_waited decision request.now }
     ensures known { plan.new.known.items ≡ [] }
+    ensures last { plan.new.last ≡ None }
     ensures fresh { (plan.new.bits ≡ 0) × (plan.new.task ≡ 0) × (plan.new.made ≡ 0) × (plan.new.ended ≡ false) }
 {
     plan.decision = decision;
@@ -98,6 +101,7 @@ pub(crate) fn plan_call<L: Links>(
     plan.objects.clear();
     plan.woken.clear();
     plan.known.clear();
+    plan.last = None;
     match decision {
         Decision::Done(_) => {}
         Decision::Block => plan_wait(&mut plan.objects, request),
@@ -138,7 +142,7 @@ fn all_waiters<L: Links>(woken: &mut ArrayVec<u8, 64>, pend: &PendLists<L>, numb
     pend.forward(ObjId(number as u8), woken);
 }
 
-// Plans the link of a call that suspends a task or resumes one. Of any other call none is known.
+// Plans the links of a call that suspends a task, resumes one or yields. Of any other call none is known.
 pub(crate) fn plan_move(
     known: &mut ArrayVec<Link, 4>,
     records: &Records,
@@ -148,10 +152,17 @@ pub(crate) fn plan_move(
     decision: &Decision,
 )
     requires empty { known.old.items ≡ [] }
-    requires inside { moves_task request.now.service decision.now ≡ true → named_task request.now caller.0 < 64 }
+    requires caller { caller.0 < 64 }
+    requires inside { (request.now.service ≡ RoundRobinYield → ⊥) → moves_task request.now.service decision.now ≡ true → named_task request.now caller.0 < 64 }
     ensures { known.new.items ≡ known_links decision.now request.now caller.0 compared.0 records.now.state }
 {
     if !moves_task(request.service, decision) {
+        return;
+    }
+    if matches!(request.service, Service::RoundRobinYield) {
+        let prio = records.tcb(caller).prio;
+        known.push(Link::Unready(caller, prio));
+        known.push(Link::Ready(caller, prio, true));
         return;
     }
     let task = TaskId(named_task(request.args[0], caller) as u8);

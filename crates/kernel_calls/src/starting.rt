@@ -13,9 +13,10 @@ ghost use Rattle.kernel_calls.specs.Stepping.{HasPrios};
 use crate::kernels::Kernel;
 use crate::making::make;
 use crate::planning::no_plan;
+use crate::seen::Seen;
 use crate::work::Work;
 use app_image::{Image, TaskDef};
-use kern_base::{Around, NoMemory, Prio, TaskId};
+use kern_base::{NoMemory, Prio, TaskId};
 use kernel_records::Records;
 use links::Links;
 use micro_steps::{Link, Steps};
@@ -40,12 +41,7 @@ impl<L: Links> Kernel<L> {
             records,
             steps,
             plan: no_plan(),
-            seen: Around {
-                caller: TaskId(0),
-                locked: false,
-                first: None,
-                prio: Prio(0),
-            },
+            seen: Seen::nothing(),
             work: Work::none(),
             busy: false,
         })

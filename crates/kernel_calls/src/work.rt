@@ -1,7 +1,7 @@
 // A whole step in hand.
 
 ghost use Rattle.std.specs.Prelude.{◌≡◌, ◌==◌, ◌-◌, ◌<◌, ◌^◌};
-ghost use Rattle.kernel_calls.specs.Works.{begun, stepped};
+ghost use Rattle.kernel_calls.specs.Works.{begun, stepped, unit_begun};
 
 use kern_base::{Prio, Request, Service, TaskId};
 use std::marker::Model;
@@ -9,15 +9,26 @@ use std::marker::Model;
 // The handler of deferred posts. A post of interrupt code that acts at once has no caller, and its number stands for one.
 pub(crate) const HANDLER: TaskId = TaskId(63);
 
-/// A whole step in hand: a call of a service that was begun, or the take of a post, and how many of its micro-steps are done.
+/// A whole step in hand: a call of a service that was begun, the take of a post or a unit of an internal task, and how many of its
+/// micro-steps are done.
 #[derive(Drop)]
 pub struct Work {
     caller: TaskId,
     request: Request,
     interrupted: Prio,
     compared: Prio,
+    unit: bool,
     done: u32,
 }
+
+// A unit asks for no service.
+const NO_REQUEST: Request = Request {
+    service: Service::Unknown(0),
+    args: [0; 4],
+    ids: [0; 8],
+    n_ids: 0,
+    table: false,
+};
 
 impl Model for Work {
     ghost use Rattle.kernel_calls.specs.Works.{WorkRecord};
@@ -34,15 +45,10 @@ impl Work {
     pub(crate) fn none() -> Work {
         Work {
             caller: HANDLER,
-            request: Request {
-                service: Service::Unknown(0),
-                args: [0; 4],
-                ids: [0; 8],
-                n_ids: 0,
-                table: false,
-            },
+            request: NO_REQUEST,
             interrupted: Prio(0),
             compared: Prio(0),
+            unit: false,
             done: 0,
         }
     }
@@ -61,6 +67,19 @@ impl Work {
         self.request = *request;
         self.interrupted = interrupted;
         self.compared = compared;
+        self.unit = false;
+        self.done = 0;
+    }
+
+    // A unit of this task at its beginning, in place of another work.
+    pub(crate) fn begin_unit(&mut self, task: TaskId)
+        ensures { self.new ≡ unit_begun task.0 }
+    {
+        self.caller = task;
+        self.request = NO_REQUEST;
+        self.interrupted = Prio(0);
+        self.compared = Prio(0);
+        self.unit = true;
         self.done = 0;
     }
 
@@ -77,6 +96,13 @@ impl Work {
         ensures { result.now ≡ self.now.request }
     {
         &self.request
+    }
+
+    // Whose work it is.
+    pub(crate) fn caller(&self) -> TaskId
+        ensures { result.0 ≡ self.now.caller }
+    {
+        self.caller
     }
 
     /// The service that is called.
@@ -105,5 +131,12 @@ impl Work {
         ensures { result ≡ (self.now.caller == 63) }
     {
         self.caller == HANDLER
+    }
+
+    /// Whether it is a unit of work of the tick task or the timer task.
+    pub fn is_unit(&self) -> bool
+        ensures { result ≡ self.now.unit }
+    {
+        self.unit
     }
 }

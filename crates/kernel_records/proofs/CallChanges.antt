@@ -1,16 +1,15 @@
 -- The change of what a call is about, in the fields of the records.
-use Rattle.std.proofs.Common.{◌≡◌, ℕ, ◌<◌, List, length, refl, sym, ap, ◌∙◌, subst, arith}
+use Rattle.std.proofs.Common.{◌≡◌, ℕ, ◌<◌, List, length, sym, ap, ◌∙◌, subst}
 use Rattle.std.specs.Prelude.{slice_index_or, slice_set}
-use Rattle.std.proofs.lemmas.List.{set-get_or}
 use Rattle.kern_base.specs.declared.requests.Request.{Request}
 use Rattle.kern_base.specs.declared.outcomes.Decision.{Decision}
 use Rattle.kern_model.specs.State as state
 use Rattle.kern_model.specs.State.{Task, object_in, task_in, update_object, update_task}
-use Rattle.message_store.specs.Store.{HeldQueue, OwnObjects, Store, after_own_call, no_own, own_after, own_at, queue_at, no_queue}
+use Rattle.message_store.specs.Store.{HeldQueue, Store, after_own_call, own_after, own_at, no_queue}
 use Rattle.kernel_records.specs.declared.objects.Content.{Content}
 use Rattle.kernel_records.specs.declared.objects.Object.{Object}
-use Rattle.kernel_records.specs.ObjectView.{content_seen, object_seen, objects_in, tasks_in, with_own}
-use Rattle.kernel_records.specs.Deciding.{content_after, own_task_after}
+use Rattle.kernel_records.specs.ObjectView.{content_seen, object_seen, objects_in, tasks_in}
+use Rattle.kernel_records.specs.Deciding.{own_task_after}
 use Rattle.kernel_records.proofs.ObjectFacts.{object-at, objects-set, own-set, task-at}
 
 -- a task's own semaphore and queue have changed

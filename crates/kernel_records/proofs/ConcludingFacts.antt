@@ -1,10 +1,11 @@
 -- What a decision comes to in the records.
-use Rattle.std.proofs.Common.{◌≡◌, ℕ, ◌<◌, List, [], ◌∷◌, ◌++◌, refl, sym, ap, ◌∙◌, subst, Bool, true, false, Option, Some, None}
+use Rattle.std.proofs.Common.{◌≡◌, ℕ, ◌<◌, List, [], ◌∷◌, refl, sym, ap, ◌∙◌, subst, Bool, true, false, Option, Some, None}
 use Rattle.std.specs.Prelude.{if◌then◌else◌, ◌==◌}
 use Rattle.std.proofs.lemmas.Bool.{false≢true}
 use Rattle.kern_base.specs.Services.{renews}
+use Rattle.kern_base.specs.declared.numbers.TaskId.{TaskId}
 use Rattle.kern_base.specs.declared.services.Service.{Service}
-use Rattle.kern_base.specs.declared.services.Service.TheVariants.{SemPost, QPost, FlagPost, TaskSemPost, TaskQPost, SemPend, QPend, FlagPend, TaskSemPend, TaskQPend, TimeDly, TimeDlyResume, SemPendAbort, QPendAbort, FlagPendAbort, TaskSemPendAbort, TaskQPendAbort, SemDel, QDel, FlagDel}
+use Rattle.kern_base.specs.declared.services.Service.TheVariants.{SemPost, QPost, FlagPost, TaskSemPost, TaskQPost, SemPend, QPend, FlagPend, TaskSemPend, TaskQPend, TimeDly, TimeDlyResume, SemPendAbort, QPendAbort, FlagPendAbort, TaskSemPendAbort, TaskQPendAbort, SemDel, QDel, FlagDel, RoundRobinYield}
 use Rattle.kern_base.specs.declared.requests.Request.{Request}
 use Rattle.kern_base.specs.declared.outcomes.Answer.{Answer}
 use Rattle.kern_base.specs.declared.outcomes.Decision.{Decision}
@@ -16,19 +17,22 @@ use Rattle.kern_base.specs.declared.outcomes.Who.{Who}
 use Rattle.kern_base.specs.declared.outcomes.Who.TheVariants.{First, All, Matching}
 use Rattle.kern_model.specs.State.{Kernel, Task, task_at, update_task}
 use Rattle.kern_model.specs.Micro.{at_head, at_tail}
-use Rattle.kern_model.specs.Effect.{Effect, answered_task, answers, fine, posted_result, posted_to, result_of, unmatched, waited, wakes, wakes_all, chosen}
+use Rattle.kern_model.specs.Effect.{Effect, answered_task, answers, fine, posted_to, result_of, unmatched, waited, wakes, wakes_all, chosen}
 use Rattle.kern_model.specs.Checks.{argument, named_task}
 use Rattle.kern_model.specs.FlagBits.{ready_bits}
 use Rattle.kern_model.specs.Flags.{flag_wakes, flag_wakes_all}
 use Rattle.kern_model.specs.Services.{content_for}
 use Rattle.kern_model.proofs.Lemmas.{update_task_at}
-use Rattle.decisions.specs.Decided.{Ending, Posted, Aborted, Deleted, bits_in, decided, ending_of, ends_waits, gone_after, gone_by, handed, handed_result, renewed_after, replied}
+use Rattle.decisions.specs.Decided.{Ending, Posted, Aborted, Deleted, bits_in, ending_of, ends_waits, gone_after, gone_by, handed, handed_result, renewed_after, replied}
 use Rattle.task_objects.specs.Rows.{is_task_call}
 use Rattle.kernel_records.specs.RecordsRecord.{without_lists}
 use Rattle.kernel_records.specs.SchedulerCalls.{is_scheduler_call}
 use Rattle.kernel_records.specs.Served.{IsSingle, is_served_wake, is_served_wait, may_wake_all}
-use Rattle.kernel_records.specs.Deciding.{IsServedDecision, acts, changed_by, changed_objects, object_change, own_change, task_change}
+use Rattle.kernel_records.specs.Deciding.{acts, changed_by, changed_objects, held_change, own_change}
 use Rattle.kernel_records.specs.Suspension.{moves_task, outcome_moved, records_moved}
+use Rattle.kernel_records.specs.TimerCalls.{is_timer_call}
+use Rattle.kernel_records.proofs.DecidingFacts.{changed-held, changed-timer}
+use Rattle.kernel_records.proofs.TimerChanges.{timer-bare}
 use Rattle.kernel_records.specs.Concluding.{AreSingle, HasOutcome, IsConcluded, awakened, awakened_all, awakens, concluded, given, given_ready, handing, looked_at, looked_at_all, outcome_after, outcome_of, records_after, waiting_in}
 
 -- tasks that are woken, in the records
@@ -100,12 +104,16 @@ plain-wait TimeDly e h = refl
 plain-wait _ e h = absurd (false≢true h)
 
 -- the change of what a call is about has no part in the lists
-bare-by : (b : Bool) (r : Request) (x : ℕ) (d : Decision) (k : Kernel) → is_task_call r.service ≡ b → without_lists (changed_by r x d k) ≡ changed_by r x d (without_lists k)
-bare-by true r x d k e = rw e refl
-bare-by false r x d k e = rw e refl
+held-bare : (b : Bool) (r : Request) (x : ℕ) (d : Decision) (k : Kernel) → is_task_call r.service ≡ b → without_lists (held_change r x d k) ≡ held_change r x d (without_lists k)
+held-bare true r x d k e = rw e refl
+held-bare false r x d k e = rw e refl
+
+bare-by : (b : Bool) (r : Request) (x : ℕ) (d : Decision) (k : Kernel) → is_timer_call r.service ≡ b → without_lists (changed_by r x d k) ≡ changed_by r x d (without_lists k)
+bare-by true r x d k m = ap without_lists (changed-timer r x d k m) ∙ timer-bare r.service (argument r 0) (content_for r k) k ∙ sym (changed-timer r x d (without_lists k) m)
+bare-by false r x d k m = ap without_lists (changed-held r x d k m) ∙ held-bare (is_task_call r.service) r x d k refl ∙ sym (changed-held r x d (without_lists k) m)
 
 objects-bare : (b : Bool) (r : Request) (x : ℕ) (d : Decision) (k : Kernel) → acts d ≡ b → without_lists (changed_objects r x d k) ≡ changed_objects r x d (without_lists k)
-objects-bare true r x d k e = rw e (bare-by (is_task_call r.service) r x d k refl)
+objects-bare true r x d k e = rw e (bare-by (is_timer_call r.service) r x d k refl)
 objects-bare false r x d k e = rw e refl
 
 own-bare-by : (b : Bool) (r : Request) (x : ℕ) (d : Decision) (k : Kernel) → is_scheduler_call r.service ≡ b → without_lists (own_change r x d k) ≡ own_change r x d (without_lists k)
@@ -190,12 +198,12 @@ outcome-bare (Wake First) r xs k = replied-bare r.service r xs k
 outcome-bare (Wake All) r xs k = replied-bare r.service r xs k
 outcome-bare (Wake Matching) r xs k = refl
 
--- the records and the outcome after a call that suspends a task or resumes one, and after any other
-pub after-moved : (d : Decision) (r : Request) (x : ℕ) (xs : List ℕ) (k : Kernel) → moves_task r.service d ≡ true → records_after d r x xs k ≡ records_moved r.service (named_task r x) x k
-after-moved d r x xs k m = ap (λ b. if b then records_moved r.service (named_task r x) x k else concluded d r x xs k) m
+-- the records and the outcome after a call that moves a task in the ready lists, and after any other
+pub after-moved : (d : Decision) (r : Request) (x : ℕ) (first : Option TaskId) (xs : List ℕ) (k : Kernel) → moves_task r.service d ≡ true → records_after d r x first xs k ≡ records_moved r.service (named_task r x) x first k
+after-moved d r x first xs k m = ap (λ b. if b then records_moved r.service (named_task r x) x first k else concluded d r x xs k) m
 
-pub after-decided : (d : Decision) (r : Request) (x : ℕ) (xs : List ℕ) (k : Kernel) → moves_task r.service d ≡ false → records_after d r x xs k ≡ concluded d r x xs k
-after-decided d r x xs k m = ap (λ b. if b then records_moved r.service (named_task r x) x k else concluded d r x xs k) m
+pub after-decided : (d : Decision) (r : Request) (x : ℕ) (first : Option TaskId) (xs : List ℕ) (k : Kernel) → moves_task r.service d ≡ false → records_after d r x first xs k ≡ concluded d r x xs k
+after-decided d r x first xs k m = ap (λ b. if b then records_moved r.service (named_task r x) x first k else concluded d r x xs k) m
 
 pub outcome-moved : (d : Decision) (r : Request) (x : ℕ) (xs : List ℕ) (k : Kernel) → moves_task r.service d ≡ true → outcome_after d r x xs k ≡ outcome_moved r.service (named_task r x == x)
 outcome-moved d r x xs k m = ap (λ b. if b then outcome_moved r.service (named_task r x == x) else outcome_of d r xs (own_change r x d k)) m
@@ -203,12 +211,21 @@ outcome-moved d r x xs k m = ap (λ b. if b then outcome_moved r.service (named_
 pub outcome-decided : (d : Decision) (r : Request) (x : ℕ) (xs : List ℕ) (k : Kernel) → moves_task r.service d ≡ false → outcome_after d r x xs k ≡ outcome_of d r xs (own_change r x d k)
 outcome-decided d r x xs k m = ap (λ b. if b then outcome_moved r.service (named_task r x == x) else outcome_of d r xs (own_change r x d k)) m
 
-bare-if : (b : Bool) (d : Decision) (r : Request) (x : ℕ) (xs : List ℕ) (k : Kernel) → moves_task r.service d ≡ b → without_lists (records_after d r x xs k) ≡ records_after d r x xs (without_lists k)
-bare-if true d r x xs k m = ap without_lists (after-moved d r x xs k m) ∙ sym (after-moved d r x xs (without_lists k) m)
-bare-if false d r x xs k m = ap without_lists (after-decided d r x xs k m) ∙ concluded-bare d r x xs k ∙ sym (after-decided d r x xs (without_lists k) m)
+moved-bare : (s : Service) (y x : ℕ) (first : Option TaskId) (k : Kernel) → without_lists (records_moved s y x first k) ≡ records_moved s y x first (without_lists k)
+moved-bare RoundRobinYield y x None k = refl
+moved-bare RoundRobinYield y x (Some z) k = refl
+moved-bare _ y x first k = refl
 
-pub after-bare : (d : Decision) (r : Request) (x : ℕ) (xs : List ℕ) (k : Kernel) → without_lists (records_after d r x xs k) ≡ records_after d r x xs (without_lists k)
-after-bare d r x xs k = bare-if (moves_task r.service d) d r x xs k refl
+bare-if : (b : Bool) (d : Decision) (r : Request) (x : ℕ) (first : Option TaskId) (xs : List ℕ) (k : Kernel) → moves_task r.service d ≡ b → without_lists (records_after d r x first xs k) ≡ records_after d r x first xs (without_lists k)
+bare-if true d r x first xs k m =
+    ap without_lists (after-moved d r x first xs k m)
+    ∙ moved-bare r.service (named_task r x) x first k
+    ∙ sym (after-moved d r x first xs (without_lists k) m)
+bare-if false d r x first xs k m =
+    ap without_lists (after-decided d r x first xs k m) ∙ concluded-bare d r x xs k ∙ sym (after-decided d r x first xs (without_lists k) m)
+
+pub after-bare : (d : Decision) (r : Request) (x : ℕ) (first : Option TaskId) (xs : List ℕ) (k : Kernel) → without_lists (records_after d r x first xs k) ≡ records_after d r x first xs (without_lists k)
+after-bare d r x first xs k = bare-if (moves_task r.service d) d r x first xs k refl
 
 -- a task that waits for several objects does not get the answer of a post alone; any other does
 single-posted : (w : Waiting) (o : ℕ) (a : Answer) (t : Task) → IsSingle w → posted_to w o a t ≡ waited w t a

@@ -2,7 +2,6 @@
 use Rattle.std.proofs.Common.{◌≡◌, ℕ, zero, suc, ◌≤◌, List, [], ◌∷◌, length, map, refl, ap, Bool, true, false, Some, arith}
 use Rattle.std.specs.Prelude.{if◌then◌else◌, slice_get, slice_set}
 use Rattle.std.proofs.Math.Seq.{map-set_same}
-use Rattle.kern_base.specs.declared.kinds.Kind.{Kind}
 use Rattle.kern_model.specs.State.{Object, Content, Count, Messages, Bits, Held, Timed, kind_of, no_object, object_in, update_object}
 use Rattle.kern_model.specs.Finish.{consumed_content, consumed_in, consumed_object}
 

@@ -1,5 +1,5 @@
 -- What is decided of a call: what a refusal leaves, what is known of a decision that acts, and that a decision is what the service does.
-use Rattle.std.proofs.Common.{◌≡◌, ℕ, zero, suc, ◌<◌, ◌≤◌, ◌+◌, ◌-◌, List, [], ◌∷◌, length, refl, sym, ap, ◌∙◌, subst, Bool, true, false, ◌&&◌, ◌||◌, not, Option, Some, None, arith, inl, inr}
+use Rattle.std.proofs.Common.{◌≡◌, ℕ, ◌<◌, ◌+◌, ◌-◌, List, [], ◌∷◌, length, refl, sym, ap, ◌∙◌, subst, Bool, true, false, ◌&&◌, ◌||◌, not, Option, Some, None}
 use Rattle.std.specs.Prelude.{if◌then◌else◌, ◌==◌, nat_lt, slice_get, slice_index, slice_set}
 use Rattle.std.proofs.lemmas.Bool.{false≢true}
 use Rattle.std.proofs.lemmas.List.{set-get_or}
@@ -10,37 +10,31 @@ use Rattle.kern_base.specs.Checks.{static_error, target_error, object_error, is_
 use Rattle.kern_base.specs.declared.kinds.Kind.{Kind}
 use Rattle.kern_base.specs.declared.kinds.Kind.TheVariants.{Sem, Queue, Flags, OneShot, Periodic}
 use Rattle.kern_base.specs.declared.services.Service.{Service}
-use Rattle.kern_base.specs.declared.services.Service.TheVariants.{SemPost, QPost, FlagPost, TaskSemPost, TaskQPost, SemPend, QPend, FlagPend, TaskSemPend, TaskQPend, QDel, SchedLock, SchedUnlock, TimeGet, TimeDly, TimeDlyResume, SemPendAbort, QPendAbort, FlagPendAbort, TaskSemPendAbort, TaskQPendAbort, SemDel, FlagDel, TaskSuspend, TaskResume}
+use Rattle.kern_base.specs.declared.services.Service.TheVariants.{SemPost, QPost, FlagPost, TaskSemPost, TaskQPost, SemPend, QPend, FlagPend, TaskSemPend, TaskQPend, QDel, SchedLock, SchedUnlock, TimeGet, TimeDly, TimeDlyResume, SemPendAbort, QPendAbort, FlagPendAbort, TaskSemPendAbort, TaskQPendAbort, SemDel, FlagDel, TaskSuspend, TaskResume, RoundRobinYield, TimeTick, TmrStart, TmrStop, TmrRemainGet, TmrStateGet, TmrDel}
 use Rattle.kern_base.specs.declared.requests.Request.{Request}
 use Rattle.kern_base.specs.declared.errors.OsErr.{OsErr}
 use Rattle.kern_base.specs.declared.errors.OsErr.TheVariants.{CallUnknown, ObjectType, OptionInvalid, TaskInvalid, TaskNotExist}
-use Rattle.kern_base.specs.declared.outcomes.Answer.{Answer}
 use Rattle.kern_base.specs.declared.outcomes.Around.{Around}
 use Rattle.kern_base.specs.declared.outcomes.Decision.{Decision}
-use Rattle.kern_base.specs.declared.outcomes.Decision.TheVariants.{Done, Block, Wake}
-use Rattle.kern_model.specs.State.{Kernel, Object, Task, Content, Count, Messages, Bits, Held, Timed, object_at, no_object, no_task, task_at, kind_of, kinds_of, list_at, with_content}
-use Rattle.kern_model.specs.Call.{call_of}
+use Rattle.kern_model.specs.State.{Kernel, Object, Content, Count, Messages, Bits, Held, Timed, object_at, no_object, task_at, kind_of, kinds_of, with_content}
 use Rattle.kern_model.specs.Effect.{refused}
 use Rattle.kern_model.specs.Checks.{argument, call_error, existence_error, first_error, is_deleted, named_task}
-use Rattle.kern_model.specs.Services.{content_for, effect, perform}
+use Rattle.kern_model.specs.Services.{content_for}
 use Rattle.served.specs.Served.{program_serves}
 use Rattle.kern_model.specs.Micro.{Lists}
 use Rattle.kern_model.proofs.Lemmas.{checked_object}
 use Rattle.kern_laws.proofs.Lemmas.{named_object}
-use Rattle.decisions.specs.Around.{IsAround}
-use Rattle.decisions.specs.Rows.{is_no_error, is_success, refusal, wait_decision}
-use Rattle.decisions.specs.Decided.{IsDecided, decided}
-use Rattle.semaphores.specs.Rows as semaphore
-use Rattle.event_flags.specs.Rows as flags
-use Rattle.msg_queues.specs.Rows as queue
+use Rattle.decisions.specs.Rows.{is_no_error, refusal}
+use Rattle.decisions.specs.Decided.{decided}
 use Rattle.task_objects.specs.Rows as own
 use Rattle.task_objects.specs.Rows.{Holds, IsTaskDecided, is_task_call, target, waiters}
-use Rattle.msg_queues.specs.Rows.{IsQueueDecided}
 use Rattle.kernel_records.specs.RecordsRecord.{with_lists}
 use Rattle.kernel_records.specs.SchedulerCalls.{is_scheduler_call, lock_after, scheduler_decision, scheduler_decision_for, scheduler_waiters}
-use Rattle.kernel_records.specs.Served.{is_served_wake, is_served_wait, serves_object}
-use Rattle.kernel_records.specs.Suspension.{is_suspension, moves_task, suspension_of}
-use Rattle.kernel_records.specs.Deciding.{IsCallOn, IsRow, acts, effect_by, changed_by, changed_objects, content_after, decision_about, decision_after, decision_by, decision_of, decision_on_objects, free_after, object_change, own_change, own_task_after, scheduler_change, task_change, waiters_of}
+use Rattle.kernel_records.specs.TimerCalls.{counted_in, is_timer_call, timer_change, timer_decision}
+use Rattle.kernel_records.specs.Served.{serves_object}
+use Rattle.kernel_records.proofs.TimerChanges.{kinds-timer}
+use Rattle.kernel_records.specs.Suspension.{moves_in_lists, moves_task, suspension_of}
+use Rattle.kernel_records.specs.Deciding.{IsCallOn, acts, effect_by, changed_by, changed_objects, content_after, decision_about, decision_after, decision_by, decision_of, decision_on_objects, object_change, own_change, scheduler_change, task_change, decision_on_named, held_change}
 
 -- an object that keeps what it holds
 pub same-content : (k : Kernel) (o : ℕ) (c : Content) → c ≡ (object_at k o).content → with_content k o c ≡ k
@@ -78,11 +72,17 @@ refused-by false r x err k n h = own-none r x (refusal err) k n h
 pub own-refused : (r : Request) (x : ℕ) (err : OsErr) (k : Kernel) → is_no_error err ≡ false → own_change r x (refusal err) k ≡ k
 own-refused r x err k h = refused-by (is_scheduler_call r.service) r x err k refl h
 
-pub changed-object : (r : Request) (x : ℕ) (d : Decision) (k : Kernel) → is_task_call r.service ≡ false → changed_by r x d k ≡ object_change r d k
-changed-object r x d k h = ap (λ c. if c then task_change r (target r.service r x) d k else object_change r d k) h
+pub changed-timer : (r : Request) (x : ℕ) (d : Decision) (k : Kernel) → is_timer_call r.service ≡ true → changed_by r x d k ≡ timer_change r.service (argument r 0) (content_for r k) k
+changed-timer r x d k m = ap (λ b. if b then timer_change r.service (argument r 0) (content_for r k) k else held_change r x d k) m
 
-pub changed-task : (r : Request) (x : ℕ) (d : Decision) (k : Kernel) → is_task_call r.service ≡ true → changed_by r x d k ≡ task_change r (target r.service r x) d k
-changed-task r x d k h = ap (λ c. if c then task_change r (target r.service r x) d k else object_change r d k) h
+pub changed-held : (r : Request) (x : ℕ) (d : Decision) (k : Kernel) → is_timer_call r.service ≡ false → changed_by r x d k ≡ held_change r x d k
+changed-held r x d k m = ap (λ b. if b then timer_change r.service (argument r 0) (content_for r k) k else held_change r x d k) m
+
+pub changed-object : (r : Request) (x : ℕ) (d : Decision) (k : Kernel) → is_timer_call r.service ≡ false → is_task_call r.service ≡ false → changed_by r x d k ≡ object_change r d k
+changed-object r x d k m h = changed-held r x d k m ∙ ap (λ c. if c then task_change r (target r.service r x) d k else object_change r d k) h
+
+pub changed-task : (r : Request) (x : ℕ) (d : Decision) (k : Kernel) → is_timer_call r.service ≡ false → is_task_call r.service ≡ true → changed_by r x d k ≡ task_change r (target r.service r x) d k
+changed-task r x d k m h = changed-held r x d k m ∙ ap (λ c. if c then task_change r (target r.service r x) d k else object_change r d k) h
 
 -- a change of an object leaves its kind
 pub kind-after : (r : Request) (d : Decision) (c : Content) → kind_of (content_after r d c) ≡ kind_of c
@@ -97,13 +97,16 @@ kinds-object r d k =
     ap (λ (ks : List Kind). record { objects = ks; tasks = k.settings.tasks })
     (map-set_same (λ (b : Object). kind_of b.content) k.objects (argument r 0) _ no_object (kind-after r d (content_for r k)))
 
-kinds-changed : (b : Bool) (r : Request) (x : ℕ) (d : Decision) (k : Kernel) → is_task_call r.service ≡ b → kinds_of (changed_by r x d k) ≡ kinds_of k
-kinds-changed true r x d k e = ap kinds_of (changed-task r x d k e)
-kinds-changed false r x d k e =
-    ap kinds_of (changed-object r x d k e) ∙ kinds-object r d k
+kinds-held : (b : Bool) (r : Request) (x : ℕ) (d : Decision) (k : Kernel) → is_timer_call r.service ≡ false → is_task_call r.service ≡ b → kinds_of (changed_by r x d k) ≡ kinds_of k
+kinds-held true r x d k m e = ap kinds_of (changed-task r x d k m e)
+kinds-held false r x d k m e = ap kinds_of (changed-object r x d k m e) ∙ kinds-object r d k
+
+kinds-changed : (b : Bool) (r : Request) (x : ℕ) (d : Decision) (k : Kernel) → is_timer_call r.service ≡ b → kinds_of (changed_by r x d k) ≡ kinds_of k
+kinds-changed true r x d k m = ap kinds_of (changed-timer r x d k m) ∙ kinds-timer r.service (argument r 0) (content_for r k) k refl
+kinds-changed false r x d k m = kinds-held (is_task_call r.service) r x d k m refl
 
 kinds-by : (b : Bool) (r : Request) (x : ℕ) (d : Decision) (k : Kernel) → is_scheduler_call r.service ≡ false → acts d ≡ b → kinds_of (own_change r x d k) ≡ kinds_of k
-kinds-by true r x d k n e = ap kinds_of (own-acts r x d k n e) ∙ kinds-changed (is_task_call r.service) r x d k refl
+kinds-by true r x d k n e = ap kinds_of (own-acts r x d k n e) ∙ kinds-changed (is_timer_call r.service) r x d k refl
 kinds-by false r x d k n e = ap kinds_of (own-none r x d k n e)
 
 kinds-if : (b : Bool) (r : Request) (x : ℕ) (d : Decision) (k : Kernel) → is_scheduler_call r.service ≡ b → kinds_of (own_change r x d k) ≡ kinds_of k
@@ -150,9 +153,10 @@ pub effect-moved : (r : Request) (d : Decision) (x h : ℕ) (xs : List ℕ) (k :
 effect-moved r d x h xs k n = ap (λ b. if b then suspension_of r.service (named_task r x) x h k else decided d r.service r x h xs (own_change r x d k)) n
 
 -- such are the calls that are not on the scheduler, and those that are refused
-no-suspension : (s : Service) → is_scheduler_call s ≡ false → is_suspension s ≡ false
+no-suspension : (s : Service) → is_scheduler_call s ≡ false → moves_in_lists s ≡ false
 no-suspension TaskSuspend n = absurd (false≢true (sym n))
 no-suspension TaskResume n = absurd (false≢true (sym n))
+no-suspension RoundRobinYield n = absurd (false≢true (sym n))
 no-suspension _ n = refl
 
 pub still-objects : (s : Service) (d : Decision) → is_scheduler_call s ≡ false → moves_task s d ≡ false
@@ -163,7 +167,7 @@ still-if true c h = h
 still-if false c h = refl
 
 pub still-refused : (s : Service) (d : Decision) → acts d ≡ false → moves_task s d ≡ false
-still-refused s d h = still-if (is_suspension s) (acts d) h
+still-refused s d h = still-if (moves_in_lists s) (acts d) h
 
 -- a refusal as a decision
 pub row-refused : (r : Request) (x h : ℕ) (xs : List ℕ) (k : Kernel) (err : OsErr) → is_no_error err ≡ false → refused k err ≡ effect_by (refusal err) r x h xs k
@@ -191,11 +195,21 @@ pub acting : (r : Request) (seen : Around) (d : Decision) (k : Kernel) → d ≡
 acting r seen d k h a = acts-served r seen d k (program_serves r.service) refl h a
 
 -- what is decided by what the call is about
-pub about-objects : (r : Request) (seen : Around) (k : Kernel) → is_scheduler_call r.service ≡ false → decision_about r seen k ≡ decision_on_objects r seen k
-about-objects r seen k n = ap (λ b. if b then scheduler_decision r seen k else decision_on_objects r seen k) n
+pub about-named : (r : Request) (seen : Around) (k : Kernel) → is_scheduler_call r.service ≡ false → decision_about r seen k ≡ decision_on_named r seen k
+about-named r seen k n = ap (λ b. if b then scheduler_decision r seen k else decision_on_named r seen k) n
+
+pub about-objects : (r : Request) (seen : Around) (k : Kernel) → is_scheduler_call r.service ≡ false → is_timer_call r.service ≡ false → decision_about r seen k ≡ decision_on_objects r seen k
+about-objects r seen k n m =
+    about-named r seen k n
+    ∙ ap (λ b. if b then timer_decision r.service (content_for r k) (argument r 0) (counted_in k) else decision_on_objects r seen k) m
+
+pub about-timer : (r : Request) (seen : Around) (k : Kernel) → is_scheduler_call r.service ≡ false → is_timer_call r.service ≡ true → decision_about r seen k ≡ timer_decision r.service (content_for r k) (argument r 0) (counted_in k)
+about-timer r seen k n m =
+    about-named r seen k n
+    ∙ ap (λ b. if b then timer_decision r.service (content_for r k) (argument r 0) (counted_in k) else decision_on_objects r seen k) m
 
 pub about-scheduler : (r : Request) (seen : Around) (k : Kernel) → is_scheduler_call r.service ≡ true → decision_about r seen k ≡ scheduler_decision r seen k
-about-scheduler r seen k n = ap (λ b. if b then scheduler_decision r seen k else decision_on_objects r seen k) n
+about-scheduler r seen k n = ap (λ b. if b then scheduler_decision r seen k else decision_on_named r seen k) n
 
 -- a decision on objects that acts comes of a call that has passed its checks
 pub record HasPassedObjects (r : Request) (seen : Around) (d : Decision) (k : Kernel) : Type 0 where
@@ -210,7 +224,7 @@ by-object r seen k h = ap (λ b. if b then own.decision_of (task_at k (target r.
 pub by-task : (r : Request) (seen : Around) (k : Kernel) → is_task_call r.service ≡ true → let t = task_at k (target r.service r seen.caller.0) in decision_on_objects r seen k ≡ own.decision_of t.count t.limit t.messages k.free r seen
 by-task r seen k h = ap (λ b. if b then own.decision_of (task_at k (target r.service r seen.caller.0)).count (task_at k (target r.service r seen.caller.0)).limit (task_at k (target r.service r seen.caller.0)).messages k.free r seen else decision_by (content_for r k) k.free r seen) h
 
--- what is decided of a call on the scheduler does not depend on the lists, nor who waits for what it is about
+-- what is decided of a call on the scheduler does not depend on the lists, nor who waits for what it is about, but for a yield
 pub scheduler-lists : (s : Service) (r : Request) (seen : Around) (k : Kernel) (l : Lists) → scheduler_decision_for s r seen k ≡ scheduler_decision_for s r seen (with_lists k l)
 scheduler-lists SchedLock r seen k l = refl
 scheduler-lists SchedUnlock r seen k l = refl
@@ -219,45 +233,75 @@ scheduler-lists TimeDly r seen k l = refl
 scheduler-lists TimeDlyResume r seen k l = refl
 scheduler-lists TaskSuspend r seen k l = refl
 scheduler-lists TaskResume r seen k l = refl
+scheduler-lists RoundRobinYield r seen k l = refl
 scheduler-lists _ r seen k l = refl
 
-pub scheduler-waiters : (s : Service) (r : Request) (x : ℕ) (k : Kernel) (l : Lists) → scheduler_waiters s r x k ≡ scheduler_waiters s r x (with_lists k l)
-scheduler-waiters TimeDlyResume r x k l = refl
-scheduler-waiters _ r x k l = refl
+pub scheduler-waiters : (s : Service) (r : Request) (x : ℕ) (k : Kernel) (l : Lists) → (s ≡ RoundRobinYield → ⊥) → scheduler_waiters s r x k ≡ scheduler_waiters s r x (with_lists k l)
+scheduler-waiters TimeDlyResume r x k l n = refl
+scheduler-waiters RoundRobinYield r x k l n = absurd (n refl)
+scheduler-waiters _ r x k l n = refl
 
 pub about-lists : (r : Request) (seen : Around) (k : Kernel) (l : Lists) → decision_about r seen k ≡ decision_about r seen (with_lists k l)
-about-lists r seen k l = ap (λ d. if is_scheduler_call r.service then d else decision_on_objects r seen k) (scheduler-lists r.service r seen k l)
+about-lists r seen k l = ap (λ d. if is_scheduler_call r.service then d else decision_on_named r seen k) (scheduler-lists r.service r seen k l)
 
--- a service that is served is one for objects, or a call on the scheduler
-pub serves-by : (s : Service) → program_serves s ≡ true → is_scheduler_call s ≡ false → serves_object s ≡ true
-serves-by SemPost p n = refl
-serves-by QPost p n = refl
-serves-by FlagPost p n = refl
-serves-by TaskSemPost p n = refl
-serves-by TaskQPost p n = refl
-serves-by SemPend p n = refl
-serves-by QPend p n = refl
-serves-by FlagPend p n = refl
-serves-by TaskSemPend p n = refl
-serves-by TaskQPend p n = refl
-serves-by SemPendAbort p n = refl
-serves-by QPendAbort p n = refl
-serves-by FlagPendAbort p n = refl
-serves-by TaskSemPendAbort p n = refl
-serves-by TaskQPendAbort p n = refl
-serves-by SemDel p n = refl
-serves-by QDel p n = refl
-serves-by FlagDel p n = refl
-serves-by SchedLock p n = absurd (false≢true (sym n))
-serves-by SchedUnlock p n = absurd (false≢true (sym n))
-serves-by TimeGet p n = absurd (false≢true (sym n))
-serves-by TimeDly p n = absurd (false≢true (sym n))
-serves-by TimeDlyResume p n = absurd (false≢true (sym n))
-serves-by TaskSuspend p n = absurd (false≢true (sym n))
-serves-by TaskResume p n = absurd (false≢true (sym n))
-serves-by _ p n = absurd (false≢true p)
+-- a service that is served is one for objects, or a call on the scheduler or on a timer
+pub serves-by : (s : Service) → program_serves s ≡ true → is_scheduler_call s ≡ false → is_timer_call s ≡ false → serves_object s ≡ true
+serves-by SemPost p n m = refl
+serves-by QPost p n m = refl
+serves-by FlagPost p n m = refl
+serves-by TaskSemPost p n m = refl
+serves-by TaskQPost p n m = refl
+serves-by SemPend p n m = refl
+serves-by QPend p n m = refl
+serves-by FlagPend p n m = refl
+serves-by TaskSemPend p n m = refl
+serves-by TaskQPend p n m = refl
+serves-by SemPendAbort p n m = refl
+serves-by QPendAbort p n m = refl
+serves-by FlagPendAbort p n m = refl
+serves-by TaskSemPendAbort p n m = refl
+serves-by TaskQPendAbort p n m = refl
+serves-by SemDel p n m = refl
+serves-by QDel p n m = refl
+serves-by FlagDel p n m = refl
+serves-by SchedLock p n m = absurd (false≢true (sym n))
+serves-by SchedUnlock p n m = absurd (false≢true (sym n))
+serves-by TimeGet p n m = absurd (false≢true (sym n))
+serves-by TimeDly p n m = absurd (false≢true (sym n))
+serves-by TimeDlyResume p n m = absurd (false≢true (sym n))
+serves-by TaskSuspend p n m = absurd (false≢true (sym n))
+serves-by TaskResume p n m = absurd (false≢true (sym n))
+serves-by TmrStart p n m = absurd (false≢true (sym m))
+serves-by TmrStop p n m = absurd (false≢true (sym m))
+serves-by TmrRemainGet p n m = absurd (false≢true (sym m))
+serves-by TmrStateGet p n m = absurd (false≢true (sym m))
+serves-by TmrDel p n m = absurd (false≢true (sym m))
+serves-by RoundRobinYield p n m = absurd (false≢true (sym n))
+serves-by TimeTick p n m = absurd (false≢true (sym n))
+serves-by _ p n m = absurd (false≢true p)
 
 -- and the first is neither the second
+pub no-timer-call : (s : Service) → serves_object s ≡ true → is_timer_call s ≡ false
+no-timer-call SemPost p = refl
+no-timer-call QPost p = refl
+no-timer-call FlagPost p = refl
+no-timer-call TaskSemPost p = refl
+no-timer-call TaskQPost p = refl
+no-timer-call SemPend p = refl
+no-timer-call QPend p = refl
+no-timer-call FlagPend p = refl
+no-timer-call TaskSemPend p = refl
+no-timer-call TaskQPend p = refl
+no-timer-call SemPendAbort p = refl
+no-timer-call QPendAbort p = refl
+no-timer-call FlagPendAbort p = refl
+no-timer-call TaskSemPendAbort p = refl
+no-timer-call TaskQPendAbort p = refl
+no-timer-call SemDel p = refl
+no-timer-call QDel p = refl
+no-timer-call FlagDel p = refl
+no-timer-call _ p = absurd (false≢true p)
+
 pub no-scheduler : (s : Service) → serves_object s ≡ true → is_scheduler_call s ≡ false
 no-scheduler SemPost p = refl
 no-scheduler QPost p = refl
@@ -300,10 +344,10 @@ served-object QDel p = refl
 served-object FlagDel p = refl
 served-object _ p = absurd (false≢true p)
 
-pub acting-objects : (r : Request) (seen : Around) (d : Decision) (k : Kernel) → is_scheduler_call r.service ≡ false → d ≡ decision_of r seen k → acts d ≡ true → HasPassedObjects r seen d k
-acting-objects r seen d k n h a =
+pub acting-objects : (r : Request) (seen : Around) (d : Decision) (k : Kernel) → is_scheduler_call r.service ≡ false → is_timer_call r.service ≡ false → d ≡ decision_of r seen k → acts d ≡ true → HasPassedObjects r seen d k
+acting-objects r seen d k n m h a =
     let it = acting r seen d k h a in
-    record { served = serves-by r.service it.served n; passed = it.passed; decided = it.decided ∙ about-objects r seen k n }
+    record { served = serves-by r.service it.served n m; passed = it.passed; decided = it.decided ∙ about-objects r seen k n m }
 
 -- the kind of object that a call wants
 pub record WantsKind (s : Service) : Type 0 where

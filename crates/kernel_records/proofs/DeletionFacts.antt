@@ -1,5 +1,5 @@
 -- The deletion of an object: what is left in it when it goes, and the records then.
-use Rattle.std.proofs.Common.{◌≡◌, ℕ, ◌<◌, ◌+◌, List, [], ◌∷◌, length, map, refl, sym, ap, ◌∙◌, subst, Bool, true, false, Option, Some, None, arith}
+use Rattle.std.proofs.Common.{◌≡◌, ℕ, ◌<◌, ◌+◌, List, [], ◌∷◌, length, map, refl, sym, ap, ◌∙◌, subst, true, false, Option, Some, None, arith}
 use Rattle.std.specs.Prelude.{slice_index, slice_index_or, slice_set}
 use Rattle.std.proofs.lemmas.Bool.{false≢true}
 use Rattle.std.proofs.lemmas.List.{length-map}
@@ -11,7 +11,6 @@ use Rattle.kern_base.specs.declared.services.Service.{Service}
 use Rattle.kern_base.specs.declared.services.Service.TheVariants.{SemDel, QDel, FlagDel, MutexDel, SemPendAbort, QPendAbort, FlagPendAbort, MutexPendAbort, TaskSemPendAbort, TaskQPendAbort}
 use Rattle.kern_base.specs.declared.requests.Request.{Request}
 use Rattle.kern_base.specs.declared.outcomes.Around.{Around}
-use Rattle.kern_base.specs.declared.outcomes.Decision.{Decision}
 use Rattle.kern_base.specs.declared.outcomes.Decision.TheVariants.{Wake}
 use Rattle.kern_base.specs.declared.outcomes.Who.{Who}
 use Rattle.kern_base.specs.declared.outcomes.Who.TheVariants.{First, All, Matching}
@@ -31,6 +30,7 @@ use Rattle.kernel_records.specs.RecordsRecord.{RecordsRecord}
 use Rattle.kernel_records.specs.RecordsView.{IsSound, records_of, state_of}
 use Rattle.kernel_records.specs.ObjectView.{objects_in}
 use Rattle.kernel_records.specs.SchedulerCalls.{is_scheduler_call}
+use Rattle.kernel_records.specs.TimerCalls.{is_timer_call}
 use Rattle.kernel_records.specs.Deciding.{IsCallOn, content_after, decision_of, own_change}
 use Rattle.kernel_records.specs.Concluding.{awakened, awakened_all, awakens, given_ready, is_deletion, looked_at, looked_at_all}
 use Rattle.kernel_records.proofs.BitsFacts.{written}
@@ -51,11 +51,11 @@ gone-object Aborted o k h = absurd (false≢true h)
 gone-object Deleted o k h = refl
 
 -- a deletion is of an object
-deletion-calls : (s : Service) → is_deletion (ending_of s) ≡ true → (is_scheduler_call s ≡ false) × (is_task_call s ≡ false)
-deletion-calls SemDel h = (refl, refl)
-deletion-calls QDel h = (refl, refl)
-deletion-calls FlagDel h = (refl, refl)
-deletion-calls MutexDel h = (refl, refl)
+deletion-calls : (s : Service) → is_deletion (ending_of s) ≡ true → (is_scheduler_call s ≡ false) × (is_task_call s ≡ false) × (is_timer_call s ≡ false)
+deletion-calls SemDel h = (refl, refl, refl)
+deletion-calls QDel h = (refl, refl, refl)
+deletion-calls FlagDel h = (refl, refl, refl)
+deletion-calls MutexDel h = (refl, refl, refl)
 deletion-calls SemPendAbort h = absurd (false≢true h)
 deletion-calls QPendAbort h = absurd (false≢true h)
 deletion-calls FlagPendAbort h = absurd (false≢true h)
@@ -110,7 +110,7 @@ module _ (r : Request) (seen : Around) (who : Who) (xs : List ℕ) (k : Kernel) 
 
   there : argument r 0 < length k.objects
   there =
-      let it = acting-objects r seen (Wake who) k (deletion-calls r.service h).0 e refl in
+      let it = acting-objects r seen (Wake who) k (deletion-calls r.service h).0 (deletion-calls r.service h).2 e refl in
       passed-inside r seen.caller.0 k it.served (deletion-calls r.service h).1 it.passed
 
   count : length after.objects ≡ length k.objects
@@ -128,10 +128,10 @@ module _ (r : Request) (seen : Around) (who : Who) (xs : List ℕ) (k : Kernel) 
   pub deleted-empty : messages_in (object_at after (argument r 0)).content ≡ 0
   deleted-empty =
       let calls = deletion-calls r.service h in
-      let it = acting-objects r seen (Wake who) k calls.0 e refl in
+      let it = acting-objects r seen (Wake who) k calls.0 calls.2 e refl in
       let c = content_for r k in
       ap (λ (bs : List state.Object). messages_in (object_in bs (argument r 0)).content) (awakens-objects who r xs (own_change r seen.caller.0 (Wake who) k))
-      ∙ ap (λ (j : Kernel). messages_in (object_at j (argument r 0)).content) (own-acts r seen.caller.0 (Wake who) k calls.0 refl ∙ changed-object r seen.caller.0 (Wake who) k calls.1)
+      ∙ ap (λ (j : Kernel). messages_in (object_at j (argument r 0)).content) (own-acts r seen.caller.0 (Wake who) k calls.0 refl ∙ changed-object r seen.caller.0 (Wake who) k calls.2 calls.1)
       ∙ ap messages_in (written k.objects (argument r 0) (content_after r (Wake who) c) there)
       ∙ empty-after c who r h (passed-call r seen.caller.0 k it.served calls.1 it.passed)
 

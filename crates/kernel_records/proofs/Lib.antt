@@ -1,7 +1,10 @@
 pub mod ObjectFacts
+pub mod TimerChanges
 pub mod DecidingFacts
 pub mod RowFacts
 pub mod SchedulerFacts
+pub mod TimerRows
+pub mod TimerObjects
 pub mod BitsFacts
 pub mod TaskFacts
 pub mod CallChanges
@@ -13,3 +16,4 @@ pub mod DeletionFacts
 pub mod StartFacts
 pub mod WaitFacts
 pub mod SuspensionFacts
+pub mod TickFacts

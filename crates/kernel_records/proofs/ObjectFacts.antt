@@ -1,16 +1,12 @@
 -- Objects with the queues of their numbers, and tasks with their own semaphores and queues, inside lists.
 use Rattle.std.proofs.Common.{◌≡◌, ℕ, zero, suc, ◌<◌, ◌≤◌, List, [], ◌∷◌, ◌++◌, length, map, get_or, refl, sym, ap, ◌∙◌, subst, true, false, arith}
 use Rattle.std.specs.Prelude.{slice_index_or, slice_set, nat_lt, not, ◌&&◌, ◌||◌, ◌==◌}
-use Rattle.kern_base.specs.declared.kinds.Kind.{Kind}
-use Rattle.kern_model.specs.State as state
-use Rattle.kern_model.specs.State.{Task, is_ready, kind_of, no_object, no_task, object_in, task_in, update_object, update_task}
+use Rattle.kern_model.specs.State.{Task, is_ready, no_object, no_task, object_in, task_in, update_task}
 use Rattle.kern_model.proofs.Lemmas.{less, not_less}
 use Rattle.machine_model.specs.Steps.{some_readied}
 use Rattle.message_store.specs.Store.{HeldQueue, OwnObjects, no_own, no_queue}
 use Rattle.message_store.specs.Start.{own_of}
 use Rattle.tcb_pool.specs.TaskView.{without_own}
-use Rattle.kernel_records.specs.declared.objects.Content.{Content}
-use Rattle.kernel_records.specs.declared.objects.Content.TheVariants.{Semaphore, Messages, Flags, Free, Timed}
 use Rattle.kernel_records.specs.declared.objects.Object.{Object}
 use Rattle.kernel_records.specs.ObjectView.{object_seen, objects_in, tasks_in, with_own}
 
@@ -93,6 +89,15 @@ task-set (o ∷ os) (u ∷ ts) (suc x) t = ap (λ l. with_own o u ∷ l) (task-s
 -- a task changes by f, which has no part in its own objects
 pub task-update : (os : List OwnObjects) (ts : List Task) (x : ℕ) (f g : Task → Task) → x < length ts → with_own (slice_index_or os x no_own) (f (task_in ts x)) ≡ g (with_own (slice_index_or os x no_own) (task_in ts x)) → tasks_in os (update_task ts x f) ≡ update_task (tasks_in os ts) x g
 task-update os ts x f g h e = task-set os ts x (f (task_in ts x)) ∙ ap (slice_set (tasks_in os ts) x) (e ∙ ap g (sym (task-at os ts x h)))
+
+-- where there is none, nothing changes
+pub update-past : (ts : List Task) (x : ℕ) (f : Task → Task) → length ts ≤ x → update_task ts x f ≡ ts
+update-past ts x f h = set-past ts x (f (task_in ts x)) h
+  where
+    set-past : (ts : List Task) (x : ℕ) (t : Task) → length ts ≤ x → slice_set ts x t ≡ ts
+    set-past [] x t h = refl
+    set-past (u ∷ ts) zero t h = absurd (omega (arith, h))
+    set-past (u ∷ ts) (suc x) t h = ap (λ l. u ∷ l) (set-past ts x t (omega (arith, h)))
 
 -- a task's own objects are replaced
 pub own-set : (os : List OwnObjects) (ts : List Task) (x : ℕ) (o : OwnObjects) → x < length os → length os ≡ length ts → tasks_in (slice_set os x o) ts ≡ slice_set (tasks_in os ts) x (with_own o (task_in ts x))

@@ -1,6 +1,6 @@
 -- A decision of an object, or of a task's own semaphore and queue, is what the service does, whatever the lists are.
-use Rattle.std.proofs.Common.{◌≡◌, ℕ, zero, suc, ◌<◌, ◌+◌, ◌-◌, List, [], ◌∷◌, drop, length, refl, sym, ap, ◌∙◌, subst, Bool, true, false, Option, Some, None}
-use Rattle.std.specs.Prelude.{if◌then◌else◌, slice_set}
+use Rattle.std.proofs.Common.{◌≡◌, ℕ, zero, suc, ◌+◌, ◌-◌, List, [], ◌∷◌, drop, length, refl, sym, ap, ◌∙◌, subst, Bool, true, false, Option, Some, None}
+use Rattle.std.specs.Prelude.{if◌then◌else◌}
 use Rattle.std.proofs.lemmas.Bool.{false≢true}
 use Rattle.std.proofs.lemmas.List.{set-get_or}
 use Rattle.kern_base.specs.Checks.{kinds_wanted}
@@ -10,15 +10,15 @@ use Rattle.kern_base.specs.declared.services.Service.{Service}
 use Rattle.kern_base.specs.declared.services.Service.TheVariants.{SemPost, QPost, FlagPost, TaskSemPost, TaskQPost, SemPend, QPend, FlagPend, TaskSemPend, TaskQPend, QDel, SchedLock, SchedUnlock, TimeDly, TimeDlyResume, SemPendAbort, QPendAbort, FlagPendAbort, TaskSemPendAbort, TaskQPendAbort, SemDel, FlagDel}
 use Rattle.kern_base.specs.declared.requests.Request.{Request}
 use Rattle.kern_base.specs.declared.errors.OsErr.{OsErr}
-use Rattle.kern_base.specs.declared.errors.OsErr.TheVariants.{CallUnknown, ObjectType, TaskWaiting}
+use Rattle.kern_base.specs.declared.errors.OsErr.TheVariants.{CallUnknown, TaskWaiting}
 use Rattle.kern_base.specs.declared.outcomes.Around.{Around}
 use Rattle.kern_base.specs.declared.outcomes.Decision.{Decision}
 use Rattle.kern_base.specs.declared.outcomes.Decision.TheVariants.{Done, Block, Wake}
 use Rattle.kern_base.specs.declared.outcomes.Who.{Who}
 use Rattle.kern_base.specs.declared.outcomes.Who.TheVariants.{First, All}
-use Rattle.kern_model.specs.State.{Kernel, Object, Task, Content, Count, Messages, Bits, Held, Timed, object_at, no_task, task_at, list_at, with_content, with_task}
-use Rattle.kern_model.specs.Call.{Call, call_of}
-use Rattle.kern_model.specs.Effect.{Effect, refused}
+use Rattle.kern_model.specs.State.{Kernel, Object, Content, Count, Messages, Bits, Held, Timed, no_task, task_at, list_at, with_content, with_task}
+use Rattle.kern_model.specs.Call.{call_of}
+use Rattle.kern_model.specs.Effect.{refused}
 use Rattle.kern_model.specs.Checks.{argument, call_error}
 use Rattle.kern_model.specs.FlagBits.{consumed}
 use Rattle.kern_model.specs.Options.{deletes_always, stores_first}
@@ -27,8 +27,8 @@ use Rattle.kern_model.specs.Services.{after_checks, content_for, effect, perform
 use Rattle.served.specs.Served.{program_serves}
 use Rattle.kern_model.specs.Micro.{Lists}
 use Rattle.decisions.specs.Around.{IsAround}
-use Rattle.decisions.specs.Rows.{abort_decision, delete_decision, is_no_error, is_success, refusal, wait_decision}
-use Rattle.decisions.specs.Decided.{IsDecided, decided}
+use Rattle.decisions.specs.Rows.{abort_decision, delete_decision, is_success, refusal, wait_decision}
+use Rattle.decisions.specs.Decided.{decided}
 use Rattle.semaphores.specs.Rows as semaphore
 use Rattle.event_flags.specs.Rows as flags
 use Rattle.msg_queues.specs.Rows as queue
@@ -38,8 +38,9 @@ use Rattle.task_objects.specs.Rows.{Holds, IsTaskDecided, is_task_call, target, 
 use Rattle.kernel_records.specs.RecordsRecord.{with_lists}
 use Rattle.kernel_records.specs.SchedulerCalls.{is_scheduler_call, lock_after, scheduler_waiters}
 use Rattle.kernel_records.specs.Served.{is_served_wake, is_served_wait, may_wake_all, serves_object}
-use Rattle.kernel_records.specs.Deciding.{IsCallOn, IsObjectRow, IsRow, IsServedDecision, acts, changed_by, content_after, decision_by, free_after, object_change, own_change, own_task_after, scheduler_change, task_change, waiters_of, waiters_of_objects}
-use Rattle.kernel_records.proofs.DecidingFacts.{changed-object, changed-task, effect-decided, no-scheduler, own-acts, own-none, own-scheduler, same-content, same-lock, served-object, still-objects}
+use Rattle.kernel_records.specs.Deciding.{IsCallOn, IsObjectRow, IsRow, IsServedDecision, acts, changed_by, content_after, decision_by, free_after, object_change, own_change, task_change, waiters_of, waiters_of_objects}
+use Rattle.kernel_records.specs.TimerCalls.{is_timer_call}
+use Rattle.kernel_records.proofs.DecidingFacts.{changed-object, changed-task, effect-decided, no-scheduler, no-timer-call, own-acts, own-none, own-scheduler, same-content, same-lock, served-object, still-objects}
 
 -- a call without success leaves what its object holds
 
@@ -67,13 +68,13 @@ flags-none FlagPend (Wake who) r seen bits e h = refl
 flags-none _ d r seen bits e h = refl
 
 -- what a decision leaves that acts not, and it is an answer
-module _ (r : Request) (seen : Around) (k : Kernel) (n : is_scheduler_call r.service ≡ false) (t : is_task_call r.service ≡ false) where
+module _ (r : Request) (seen : Around) (k : Kernel) (n : is_scheduler_call r.service ≡ false) (m : is_timer_call r.service ≡ false) (t : is_task_call r.service ≡ false) where
   -- the kernel after an object has changed that held this, in both cases
   own-object : (d : Decision) (c : Content) (b : Bool) → acts d ≡ b → content_for r k ≡ c
       → (b ≡ false → (content_after r d c ≡ c) × (free_after r d c k.free ≡ k.free))
       → own_change r seen.caller.0 d k ≡ record (with_content k (argument r 0) (content_after r d c)) { free = free_after r d c k.free }
   own-object d c true a h same =
-      own-acts r seen.caller.0 d k n a ∙ changed-object r seen.caller.0 d k t
+      own-acts r seen.caller.0 d k n a ∙ changed-object r seen.caller.0 d k m t
       ∙ ap (λ e. record (with_content k (argument r 0) (content_after r d e)) { free = free_after r d e k.free }) h
   own-object d c false a h same =
       own-none r seen.caller.0 d k n a
@@ -122,21 +123,21 @@ module _ (r : Request) (seen : Around) (d : Decision) (k : Kernel) (s : program_
       ∙ ap (λ e. after_checks e (call_of r seen.caller.0 c h) (with_lists k l)) p
 
   -- of an object
-  pub row-object : (c : Content) → is_scheduler_call r.service ≡ false → is_task_call r.service ≡ false → content_for r k ≡ c → (acts d ≡ false → (content_after r d c ≡ c) × (free_after r d c k.free ≡ k.free))
+  pub row-object : (c : Content) → is_scheduler_call r.service ≡ false → is_timer_call r.service ≡ false → is_task_call r.service ≡ false → content_for r k ≡ c → (acts d ≡ false → (content_after r d c ≡ c) × (free_after r d c k.free ≡ k.free))
       → ((j : Kernel) (i h : ℕ) → content_for r j ≡ c → j.free ≡ k.free → IsAround seen (list_at j.pend (argument r 0)) j → perform r.service (call_of r seen.caller.0 i h) j ≡ decided d r.service r seen.caller.0 h (list_at j.pend (argument r 0)) (record (with_content j (argument r 0) (content_after r d c)) { free = free_after r d c k.free }))
       → IsRow r seen d k
-  row-object c n t held same does l i h around =
+  row-object c n m t held same does l i h around =
       let j = with_lists k l in
       let xs : waiters_of r seen.caller.0 j ≡ list_at l.pend (argument r 0) = waiters-object r seen.caller.0 j n t in
       performed l i h
       ∙ does j i h held refl (around-lists seen (list_at l.pend (argument r 0)) k l (subst (λ ys. IsAround seen ys k) xs around))
       ∙ ap (λ ys. decided d r.service r seen.caller.0 h ys (record (with_content j (argument r 0) (content_after r d c)) { free = free_after r d c k.free })) (sym xs)
-      ∙ ap (decided d r.service r seen.caller.0 h (waiters_of r seen.caller.0 j)) (sym (own-object r seen j n t d c (acts d) refl held same))
+      ∙ ap (decided d r.service r seen.caller.0 h (waiters_of r seen.caller.0 j)) (sym (own-object r seen j n m t d c (acts d) refl held same))
       ∙ sym (effect-decided r d seen.caller.0 h (waiters_of r seen.caller.0 j) j (still-objects r.service d n))
 
   -- by what the object decides
-  pub row-by : (c : Content) → is_scheduler_call r.service ≡ false → is_task_call r.service ≡ false → content_for r k ≡ c → d ≡ decision_by c k.free r seen → IsObjectRow r seen d c k.free → IsRow r seen d k
-  row-by c n t held value does = row-object c n t held (none-by c r seen k.free d value) does
+  pub row-by : (c : Content) → is_scheduler_call r.service ≡ false → is_timer_call r.service ≡ false → is_task_call r.service ≡ false → content_for r k ≡ c → d ≡ decision_by c k.free r seen → IsObjectRow r seen d c k.free → IsRow r seen d k
+  row-by c n m t held value does = row-object c n m t held (none-by c r seen k.free d value) does
 
 -- of a task's own semaphore and queue
 
@@ -171,9 +172,9 @@ own-task-none (Done a) r y k h =
 own-task-none Block r y k h = absurd (false≢true (sym h))
 own-task-none (Wake who) r y k h = absurd (false≢true (sym h))
 
-own-task : (d : Decision) (r : Request) (x : ℕ) (k : Kernel) (b : Bool) → acts d ≡ b → is_scheduler_call r.service ≡ false → is_task_call r.service ≡ true → own_change r x d k ≡ task_change r (target r.service r x) d k
-own-task d r x k true a n t = own-acts r x d k n a ∙ changed-task r x d k t
-own-task d r x k false a n t = own-none r x d k n a ∙ sym (own-task-none d r (target r.service r x) k a)
+own-task : (d : Decision) (r : Request) (x : ℕ) (k : Kernel) (b : Bool) → acts d ≡ b → is_scheduler_call r.service ≡ false → is_timer_call r.service ≡ false → is_task_call r.service ≡ true → own_change r x d k ≡ task_change r (target r.service r x) d k
+own-task d r x k true a n m t = own-acts r x d k n a ∙ changed-task r x d k m t
+own-task d r x k false a n m t = own-none r x d k n a ∙ sym (own-task-none d r (target r.service r x) k a)
 
 pub row-task : (r : Request) (seen : Around) (d : Decision) (k : Kernel) (n limit : ℕ) (ms : List (ℕ × ℕ)) → serves_object r.service ≡ true → call_error r seen.caller.0 k ≡ None → is_task_call r.service ≡ true → Holds n limit ms (task_at k (target r.service r seen.caller.0)) → IsTaskDecided d n limit ms k.free r seen → IsRow r seen d k
 row-task r seen d k n limit ms s p t holds does l i h around =
@@ -184,7 +185,7 @@ row-task r seen d k n limit ms s p t holds does l i h around =
     ∙ does j i h holds refl (around-lists seen (waiters r.service y j) k l (subst (λ ys. IsAround seen ys k) xs around))
     ∙ ap (λ (a : ℕ × List (ℕ × ℕ)). decided d r.service r seen.caller.0 h (waiters r.service y j) (record (with_task j y (λ u. record u { count = own.count_after r.service d a.0; messages = own.messages_after r.service d r a.1 })) { free = own.free_after r.service d j.free })) (ap (λ m. (m, ms)) (sym holds.counted) ∙ ap (λ m. ((task_at k y).count, m)) (sym holds.filled))
     ∙ ap (λ ys. decided d r.service r seen.caller.0 h ys (task_change r y d j)) (sym xs)
-    ∙ ap (decided d r.service r seen.caller.0 h (waiters_of r seen.caller.0 j)) (sym (own-task d r seen.caller.0 j (acts d) refl (no-scheduler r.service s) t))
+    ∙ ap (decided d r.service r seen.caller.0 h (waiters_of r seen.caller.0 j)) (sym (own-task d r seen.caller.0 j (acts d) refl (no-scheduler r.service s) (no-timer-call r.service s) t))
     ∙ sym (effect-decided r d seen.caller.0 h (waiters_of r seen.caller.0 j) j (still-objects r.service d (no-scheduler r.service s)))
 
 -- the decisions of the services that are served
@@ -420,11 +421,21 @@ own-free-blocked TaskQPost free = refl
 own-free-blocked TaskQPend free = refl
 own-free-blocked _ free = refl
 
+-- a wait is none on a timer, nor does such a call wake
+pub wait-no-timer : (s : Service) → is_served_wait s ≡ true → is_timer_call s ≡ false
+wait-no-timer SemPend h = refl
+wait-no-timer QPend h = refl
+wait-no-timer FlagPend h = refl
+wait-no-timer TaskSemPend h = refl
+wait-no-timer TaskQPend h = refl
+wait-no-timer TimeDly h = refl
+wait-no-timer _ h = absurd (false≢true h)
+
 block-by : (b : Bool) (r : Request) (x : ℕ) (k : Kernel) → is_task_call r.service ≡ b → is_served_wait r.service ≡ true → changed_by r x Block k ≡ k
 block-by true r x k t h =
     let y = target r.service r x in
-    changed-task r x Block k t ∙ task-kept Block r y k (own-count-blocked r.service (task_at k y).count) (own-messages-blocked r.service r (task_at k y).messages) (own-free-blocked r.service k.free)
-block-by false r x k t h = changed-object r x Block k t ∙ blocked-object r k (content_for r k) refl h
+    changed-task r x Block k (wait-no-timer r.service h) t ∙ task-kept Block r y k (own-count-blocked r.service (task_at k y).count) (own-messages-blocked r.service r (task_at k y).messages) (own-free-blocked r.service k.free)
+block-by false r x k t h = changed-object r x Block k (wait-no-timer r.service h) t ∙ blocked-object r k (content_for r k) refl h
 
 lock-blocked : (s : Service) (lock : ℕ) → lock_after s Block lock ≡ lock
 lock-blocked SchedLock lock = refl
@@ -448,29 +459,45 @@ pub record IsBeside (k j : Kernel) : Type 0 where
   pub is : j ≡ beside k objects free
 
 -- a call that wakes the first waiter or all changes nothing else beside that
-beside-by : (b : Bool) (who : Who) (r : Request) (x : ℕ) (k : Kernel) → is_task_call r.service ≡ b → IsBeside k (changed_by r x (Wake who) k)
-beside-by true who r x k t =
+pub wake-no-timer : (s : Service) → is_served_wake s ≡ true → is_timer_call s ≡ false
+wake-no-timer SemPost h = refl
+wake-no-timer QPost h = refl
+wake-no-timer TaskSemPost h = refl
+wake-no-timer TaskQPost h = refl
+wake-no-timer TimeDlyResume h = refl
+wake-no-timer SemPendAbort h = refl
+wake-no-timer QPendAbort h = refl
+wake-no-timer FlagPendAbort h = refl
+wake-no-timer TaskSemPendAbort h = refl
+wake-no-timer TaskQPendAbort h = refl
+wake-no-timer SemDel h = refl
+wake-no-timer QDel h = refl
+wake-no-timer FlagDel h = refl
+wake-no-timer _ h = absurd (false≢true h)
+
+beside-by : (b : Bool) (who : Who) (r : Request) (x : ℕ) (k : Kernel) → is_timer_call r.service ≡ false → is_task_call r.service ≡ b → IsBeside k (changed_by r x (Wake who) k)
+beside-by true who r x k m t =
     let y = target r.service r x in
     record {
       objects = k.objects;
       free = k.free;
-      is = changed-task r x (Wake who) k t ∙ task-kept (Wake who) r y k (own-count-waked r.service who (task_at k y).count) (own-messages-waked r.service who r (task_at k y).messages) (own-free-waked r.service who k.free);
+      is = changed-task r x (Wake who) k m t ∙ task-kept (Wake who) r y k (own-count-waked r.service who (task_at k y).count) (own-messages-waked r.service who r (task_at k y).messages) (own-free-waked r.service who k.free);
     }
-beside-by false who r x k t =
+beside-by false who r x k m t =
     let j = object_change r (Wake who) k in
-    record { objects = j.objects; free = j.free; is = changed-object r x (Wake who) k t }
+    record { objects = j.objects; free = j.free; is = changed-object r x (Wake who) k m t }
 
 lock-waked : (s : Service) (who : Who) (lock : ℕ) → lock_after s (Wake who) lock ≡ lock
 lock-waked SchedLock who lock = refl
 lock-waked SchedUnlock who lock = refl
 lock-waked _ who lock = refl
 
-beside-if : (b : Bool) (who : Who) (r : Request) (x : ℕ) (k : Kernel) → is_scheduler_call r.service ≡ b → IsBeside k (own_change r x (Wake who) k)
-beside-if true who r x k n =
+beside-if : (b : Bool) (who : Who) (r : Request) (x : ℕ) (k : Kernel) → is_timer_call r.service ≡ false → is_scheduler_call r.service ≡ b → IsBeside k (own_change r x (Wake who) k)
+beside-if true who r x k m n =
     record { objects = k.objects; free = k.free; is = own-scheduler r x (Wake who) k n ∙ same-lock r (Wake who) k (lock-waked r.service who k.lock) }
-beside-if false who r x k n =
-    let by = beside-by (is_task_call r.service) who r x k refl in
+beside-if false who r x k m n =
+    let by = beside-by (is_task_call r.service) who r x k m refl in
     record { objects = by.objects; free = by.free; is = own-acts r x (Wake who) k n refl ∙ by.is }
 
-pub own-beside : (who : Who) (r : Request) (x : ℕ) (k : Kernel) → IsBeside k (own_change r x (Wake who) k)
-own-beside who r x k = beside-if (is_scheduler_call r.service) who r x k refl
+pub own-beside : (who : Who) (r : Request) (x : ℕ) (k : Kernel) → is_timer_call r.service ≡ false → IsBeside k (own_change r x (Wake who) k)
+own-beside who r x k m = beside-if (is_scheduler_call r.service) who r x k m refl

@@ -1,6 +1,6 @@
 -- What is known of the task that a call on its own semaphore or queue is about.
-use Rattle.std.proofs.Common.{◌≡◌, ℕ, ◌<◌, ◌≤◌, List, [], length, refl, sym, ap, ◌∙◌, subst, Bool, true, false, ◌&&◌, not, None, Some, inl, inr, arith}
-use Rattle.std.specs.Prelude.{if◌then◌else◌, nat_lt, slice_index_or}
+use Rattle.std.proofs.Common.{◌≡◌, ℕ, ◌<◌, length, refl, sym, ap, ◌∙◌, subst, true, false, ◌&&◌, not, None, Some, inl, inr}
+use Rattle.std.specs.Prelude.{if◌then◌else◌, nat_lt}
 use Rattle.std.proofs.lemmas.Bool.{false≢true}
 use Rattle.std.proofs.lemmas.Bool.Decides.{leb_tells}
 use Rattle.std.proofs.lemmas.List.{get_or_past}
@@ -22,7 +22,7 @@ use Rattle.kernel_records.specs.declared.records.Records.TheInside.{Inside}
 use Rattle.kernel_records.specs.RecordsRecord.{RecordsRecord}
 use Rattle.kernel_records.specs.RecordsView.{IsSound, records_of, state_of}
 use Rattle.kernel_records.specs.ObjectView.{objects_in, tasks_in, with_own}
-use Rattle.kernel_records.specs.Deciding.{own_task_after, task_change}
+use Rattle.kernel_records.specs.Deciding.{task_change}
 use Rattle.message_store.specs.Store.{Store, after_own_call}
 use Rattle.kernel_records.proofs.CallChanges.{own-changed}
 use Rattle.kernel_records.proofs.ObjectFacts.{length-tasks, task-at}

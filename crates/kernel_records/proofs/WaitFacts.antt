@@ -29,6 +29,7 @@ use Rattle.tick_timers.specs.Delays.{delay_decision}
 use Rattle.kernel_records.specs.SchedulerCalls.{is_scheduler_call, scheduler_decision_for}
 use Rattle.kernel_records.specs.Served.{is_served_wait}
 use Rattle.kernel_records.specs.Deciding.{IsCallOn, decision_after, decision_by, decision_of}
+use Rattle.kernel_records.proofs.RowFacts.{wait-no-timer}
 use Rattle.kernel_records.proofs.DecidingFacts.{about-lists, about-scheduler, acting, acting-objects, by-object, by-task, passed-call, passed-inside}
 
 -- a call that can not go on at once
@@ -149,11 +150,11 @@ wait-objects _ r ticks = refl
 module _ (r : Request) (seen : Around) (k : Kernel) (e : Block ≡ decision_of r seen k) (w : is_served_wait r.service ≡ true) where
   unlocked-objects : (b : Bool) → is_task_call r.service ≡ b → is_scheduler_call r.service ≡ false → seen.locked ≡ false
   unlocked-objects true t n =
-      let it = acting-objects r seen Block k n e refl in
+      let it = acting-objects r seen Block k n (wait-no-timer r.service w) e refl in
       let u = task_at k (target r.service r seen.caller.0) in
       task-unlocked r.service u.count u.limit u.messages k.free r seen w t (it.decided ∙ by-task r seen k t)
   unlocked-objects false t n =
-      let it = acting-objects r seen Block k n e refl in
+      let it = acting-objects r seen Block k n (wait-no-timer r.service w) e refl in
       object-unlocked (content_for r k) k.free r seen w (passed-call r seen.caller.0 k it.served t it.passed) (it.decided ∙ by-object r seen k t)
 
   unlocked-if : (b : Bool) → is_scheduler_call r.service ≡ b → seen.locked ≡ false
@@ -166,7 +167,7 @@ module _ (r : Request) (seen : Around) (k : Kernel) (e : Block ≡ decision_of r
   pub waited-objects : AreObjects (length k.objects) (wait_objects r.service r)
   waited-objects =
       waited-by r.service r (length k.objects) w
-      (λ n t. let it = acting-objects r seen Block k n e refl in passed-inside r seen.caller.0 k it.served t it.passed)
+      (λ n t. let it = acting-objects r seen Block k n (wait-no-timer r.service w) e refl in passed-inside r seen.caller.0 k it.served t it.passed)
 
 -- what is decided does not depend on the lists of the kernel
 after-lists : (e : Option OsErr) (r : Request) (seen : Around) (k : Kernel) (l : Lists) → decision_after e r seen k ≡ decision_after e r seen (with_lists k l)

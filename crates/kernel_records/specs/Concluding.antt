@@ -1,5 +1,6 @@
 -- What a decision comes to in the records: the last micro-step of a whole step makes it.
 use Rattle.std.specs.Prelude.{◌≡◌, ◌<◌, ℕ, Bool, true, false, List, [], ◌∷◌, ◌++◌, Option, Some, None, if◌then◌else◌, ◌==◌}
+use Rattle.kern_base.specs.declared.numbers.TaskId.{TaskId}
 use Rattle.kern_base.specs.declared.requests.Request.{Request}
 use Rattle.kern_base.specs.declared.outcomes.Decision.{Decision}
 use Rattle.kern_base.specs.declared.outcomes.Decision.TheVariants.{Done, Block, Wake}
@@ -103,10 +104,11 @@ outcome_of (Done a) r xs k = answers a
 outcome_of Block r xs k = Waits
 outcome_of (Wake who) r xs k = answers (answer_of who r xs k)
 
--- the records and the outcome after the last micro-step of a call of x: a task was suspended or resumed, or what was decided is made
-abbrev pub records_after : Decision → Request → ℕ → List ℕ → Kernel → Kernel
-records_after d r x xs k =
-    if moves_task r.service d then records_moved r.service (named_task r x) x k else concluded d r x xs k
+-- The records and the outcome after the last micro-step of a call of x, where this task is the first of those that wait for what
+-- the call is about: a task was moved in the ready lists, or what was decided is made.
+abbrev pub records_after : Decision → Request → ℕ → Option TaskId → List ℕ → Kernel → Kernel
+records_after d r x first xs k =
+    if moves_task r.service d then records_moved r.service (named_task r x) x first k else concluded d r x xs k
 
 abbrev pub outcome_after : Decision → Request → ℕ → List ℕ → Kernel → Outcome
 outcome_after d r x xs k =

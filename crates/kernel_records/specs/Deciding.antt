@@ -1,6 +1,6 @@
--- What is decided of a call, by the records alone, and how what the call is about then changes: the object that it names, the own
--- semaphore or queue of a task, or the scheduler.
-use Rattle.std.specs.Prelude.{◌≡◌, ℕ, Bool, true, false, List, length, Option, Some, None, if◌then◌else◌}
+-- What is decided of a call, by the records alone, and how what the call is about then changes: the object that it names, a timer
+-- with its match, the own semaphore or queue of a task, or the scheduler.
+use Rattle.std.specs.Prelude.{◌≡◌, ℕ, true, List, length, Option, Some, None, if◌then◌else◌}
 use Rattle.kern_base.specs.declared.services.Service.{Service}
 use Rattle.kern_base.specs.declared.services.Service.TheVariants.{FlagPost}
 use Rattle.kern_base.specs.declared.requests.Request.{Request}
@@ -29,6 +29,7 @@ use Rattle.kernel_records.specs.RecordsRecord.{with_lists}
 use Rattle.kernel_records.specs.Suspension.{moves_task, suspension_of}
 pub use Rattle.kernel_records.specs.Suspension.{acts}
 use Rattle.kernel_records.specs.SchedulerCalls.{is_scheduler_call, lock_after, scheduler_decision, scheduler_waiters}
+use Rattle.kernel_records.specs.TimerCalls.{counted_in, is_timer_call, timer_change, timer_decision}
 use Rattle.kernel_records.specs.Served.{is_served_wake, is_served_wait, may_wake_all}
 
 -- who waits for what a call of x is about: the task whose own semaphore or queue it is, the waiters of the object, or the task whose
@@ -64,8 +65,14 @@ decision_on_objects r seen k =
     if is_task_call r.service then decision_by_task (task_at k (target r.service r seen.caller.0)) k.free r seen
     else decision_by (content_for r k) k.free r seen
 
+-- the timer that a call names decides it, or what else it is about
+abbrev pub decision_on_named : Request → Around → Kernel → Decision
+decision_on_named r seen k =
+    if is_timer_call r.service then timer_decision r.service (content_for r k) (argument r 0) (counted_in k)
+    else decision_on_objects r seen k
+
 abbrev pub decision_about : Request → Around → Kernel → Decision
-decision_about r seen k = if is_scheduler_call r.service then scheduler_decision r seen k else decision_on_objects r seen k
+decision_about r seen k = if is_scheduler_call r.service then scheduler_decision r seen k else decision_on_named r seen k
 
 abbrev pub decision_after : Option OsErr → Request → Around → Kernel → Decision
 decision_after (Some err) r seen k = refusal err
@@ -105,9 +112,14 @@ task_change r y d k = record (with_task k y (own_task_after r d)) { free = own.f
 abbrev pub scheduler_change : Request → Decision → Kernel → Kernel
 scheduler_change r d k = record k { lock = lock_after r.service d k.lock }
 
+-- the kernel after the own objects of a task have changed, or an object that is no timer
+abbrev pub held_change : Request → ℕ → Decision → Kernel → Kernel
+held_change r x d k = if is_task_call r.service then task_change r (target r.service r x) d k else object_change r d k
+
 -- the kernel after what a call of x is about has changed
 abbrev pub changed_by : Request → ℕ → Decision → Kernel → Kernel
-changed_by r x d k = if is_task_call r.service then task_change r (target r.service r x) d k else object_change r d k
+changed_by r x d k =
+    if is_timer_call r.service then timer_change r.service (argument r 0) (content_for r k) k else held_change r x d k
 
 abbrev pub changed_objects : Request → ℕ → Decision → Kernel → Kernel
 changed_objects r x d k = if acts d then changed_by r x d k else k

@@ -3,7 +3,10 @@ pub mod ObjectView
 pub mod Served
 pub mod Suspension
 pub mod SchedulerCalls
+pub mod TimerCalls
 pub mod Deciding
 pub mod Concluding
 pub mod TaskChanges
+pub mod Ticks
+pub mod TimerUnits
 pub mod RecordsView

@@ -3,24 +3,13 @@ use Rattle.std.specs.Prelude.{[], ◌∷◌, None, List}
 use Rattle.kern_model.specs.State as state
 use Rattle.kern_model.specs.State.{Task}
 use Rattle.app_image.specs.declared.records.ObjDef.{ObjDef}
-use Rattle.kern_model.specs.Start.{callback_of, content_of}
+use Rattle.kern_model.specs.Start.{content_of}
 use Rattle.message_store.specs.Start.{held_of}
 use Rattle.message_store.specs.Store.{HeldQueue, OwnObjects, no_own, no_queue}
-use Rattle.kernel_records.specs.declared.objects.Timer.{Timer}
+use Rattle.tick_timers.specs.TimerSeen.{timer_seen}
 use Rattle.kernel_records.specs.declared.objects.Content.{Content}
 use Rattle.kernel_records.specs.declared.objects.Content.TheVariants.{Semaphore, Messages, Flags, Free, Timed}
 use Rattle.kernel_records.specs.declared.objects.Object.{Object}
-
-abbrev pub timer_seen : Timer → state.Timer
-timer_seen t =
-    record {
-      periodic = t.periodic;
-      state = state.Stopped;
-      delay = t.delay;
-      period = t.period;
-      callback = callback_of t.callback;
-      argument = t.argument;
-    }
 
 abbrev pub content_seen : HeldQueue → Content → state.Content
 content_seen q (Semaphore s) = state.Count s.count

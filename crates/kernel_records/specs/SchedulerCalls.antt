@@ -1,17 +1,18 @@
--- Calls on the scheduler: its lock, its ticks, delays, and suspension of tasks.
+-- Calls on the scheduler: its lock, its ticks, delays, suspension of tasks, and the yield.
 use Rattle.std.specs.Prelude.{ℕ, zero, suc, ◌+◌, ◌-◌, Bool, true, false, not, ◌&&◌, ◌||◌, List, [], ◌∷◌, if◌then◌else◌, ◌==◌}
 use Rattle.kern_base.specs.declared.services.Service.{Service}
-use Rattle.kern_base.specs.declared.services.Service.TheVariants.{SchedLock, SchedUnlock, TimeGet, TimeDly, TimeDlyResume, TaskSuspend, TaskResume}
+use Rattle.kern_base.specs.declared.services.Service.TheVariants.{SchedLock, SchedUnlock, TimeGet, TimeDly, TimeDlyResume, TaskSuspend, TaskResume, RoundRobinYield, TimeTick}
 use Rattle.kern_base.specs.declared.requests.Request.{Request}
 use Rattle.kern_base.specs.declared.errors.OsErr.TheVariants.{CallUnknown, LockOverflow, SchedLocked, SchedNotLocked}
 use Rattle.kern_base.specs.declared.outcomes.Around.{Around}
 use Rattle.kern_base.specs.declared.outcomes.Decision.{Decision}
 use Rattle.kern_base.specs.declared.outcomes.Decision.TheVariants.{Done}
-use Rattle.kern_model.specs.State.{Kernel, is_zero, nesting_limit, task_at, timer_task}
+use Rattle.kern_model.specs.State.{Kernel, is_zero, list_at, nesting_limit, prio_of, task_at, timer_task}
 use Rattle.kern_model.specs.Checks.{named_task}
 use Rattle.kern_model.specs.Effect.{answer, fine}
 use Rattle.kern_model.specs.Time.{delay_of}
 use Rattle.decisions.specs.Rows.{is_no_error, refusal}
+use Rattle.round_robin.specs.Turns.{yield_decision}
 use Rattle.tick_timers.specs.Delays.{delay_decision, is_delayed, resume_decision}
 use Rattle.kernel_records.specs.Suspension.{suspend_decision, task_resume_decision}
 
@@ -23,7 +24,14 @@ is_scheduler_call TimeDly = true
 is_scheduler_call TimeDlyResume = true
 is_scheduler_call TaskSuspend = true
 is_scheduler_call TaskResume = true
+is_scheduler_call RoundRobinYield = true
+is_scheduler_call TimeTick = true
 is_scheduler_call _ = false
+
+-- OSTimeTick is not decided: it always succeeds
+abbrev pub is_tick : Service → Bool
+is_tick TimeTick = true
+is_tick _ = false
 
 -- the scheduler is locked so often, and once more
 abbrev pub lock_decision : ℕ → Decision
@@ -49,15 +57,23 @@ scheduler_decision_for TaskSuspend r seen k =
     let y = named_task r seen.caller.0 in suspend_decision ((y == seen.caller.0) && seen.locked) (task_at k y).suspended
 scheduler_decision_for TaskResume r seen k =
     let y = named_task r seen.caller.0 in task_resume_decision (y == seen.caller.0) (task_at k y).suspended
+scheduler_decision_for RoundRobinYield r seen k = yield_decision seen.first seen.locked k.settings.round_robin
 scheduler_decision_for _ r seen k = refusal CallUnknown
 
 abbrev pub scheduler_decision : Request → Around → Kernel → Decision
 scheduler_decision r seen k = scheduler_decision_for r.service r seen k
 
--- who waits for what a call of x is about: the task that it names, where its delay is to end
+-- those whose turn comes once x has yielded, where its ready list is this
+abbrev pub turn_waiters : ℕ → List ℕ → List ℕ
+turn_waiters x [] = []
+turn_waiters x (y ∷ []) = []
+turn_waiters x (y ∷ z ∷ zs) = if y == x then z ∷ zs else y ∷ z ∷ zs
+
+-- who waits for what a call of x is about: the task that it names, where its delay is to end, or those whose turn comes
 abbrev pub scheduler_waiters : Service → Request → ℕ → Kernel → List ℕ
 scheduler_waiters TimeDlyResume r x k =
     let y = named_task r x in if is_delayed (task_at k y).waiting then y ∷ [] else []
+scheduler_waiters RoundRobinYield r x k = turn_waiters x (list_at k.ready (prio_of k x))
 scheduler_waiters s r x k = []
 
 -- the lock after this was decided of a call that locks or unlocks: an unlock that is not the last is answered with an error and what

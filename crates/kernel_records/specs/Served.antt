@@ -4,7 +4,7 @@ use Rattle.std.specs.Prelude.{◌≡◌, ◌<◌, ℕ, Bool, true, false, Option
 use Rattle.kern_base.specs.declared.services.Service.{Service}
 use Rattle.kern_base.specs.declared.services.Service.TheVariants.{SemPend, QPend, FlagPend, TaskSemPend, TaskQPend, SemPost, QPost, FlagPost, TaskSemPost, TaskQPost, TimeDly, TimeDlyResume, SemPendAbort, QPendAbort, FlagPendAbort, TaskSemPendAbort, TaskQPendAbort, SemDel, QDel, FlagDel}
 use Rattle.kern_base.specs.declared.outcomes.Waiting.{Waiting}
-use Rattle.kern_base.specs.declared.outcomes.Waiting.TheVariants.{Multi}
+use Rattle.kern_base.specs.declared.outcomes.Waiting.TheVariants.{Obj, Multi}
 use Rattle.kern_base.specs.declared.outcomes.Finished.{Finished}
 use Rattle.kern_model.specs.State.{Kernel, task_at}
 
@@ -69,9 +69,10 @@ may_wake_all QDel = true
 may_wake_all FlagDel = true
 may_wake_all _ = false
 
--- a wait that is not for several objects
+-- a wait that is served: not for several objects, and not for a mutex
 abbrev pub IsSingle : Waiting → Type 0
 IsSingle Multi = ⊥
+IsSingle (Obj s) = is_served_wait s ≡ true
 IsSingle _ = Unit {0}
 
 -- a result without a table
@@ -79,7 +80,8 @@ abbrev pub HasNoTable : Option Finished → Type 0
 HasNoTable None = Unit {0}
 HasNoTable (Some f) = f.n_ids ≡ 0
 
--- No application task waits for several objects, and no result has a table.
+-- No application task waits for several objects or for a mutex, no result has a table, and each task has its base priority.
 pub record IsServed (k : Kernel) : Type 0 where
   pub waits : (x : ℕ) → x < 60 → IsSingle (task_at k x).waiting
   pub reads : (x : ℕ) → HasNoTable (task_at k x).answered
+  pub bases : (x : ℕ) → (task_at k x).base ≡ (task_at k x).prio

@@ -13,6 +13,7 @@ ghost use Rattle.kernel_records.specs.ObjectView.{content_seen};
 ghost use Rattle.tick_timers.specs.Matches.{IsUnmatched};
 ghost use Rattle.kernel_records.specs.Served.{IsSingle, is_served_wait};
 ghost use Rattle.kernel_records.specs.SchedulerCalls.{is_scheduler_call, lock_after};
+ghost use Rattle.kernel_records.specs.TimerCalls.{is_timer_call};
 ghost use Rattle.kernel_records.specs.Deciding.{IsCallOn, IsServedDecision, acts, changed_by, content_after, decision_by, decision_of, free_after, object_change, own_change};
 ghost use Rattle.kernel_records.specs.Concluding.{AreSingle, answer_of, awakened_all, awakens, concluded, given, looked_at, is_deletion, looked_at_all, objects_waited, outcome_after, outcome_of, records_after, waiting_in};
 
@@ -22,6 +23,7 @@ use crate::records::Records;
 use crate::scheduler_calls::is_scheduler_call;
 use crate::suspension::moves_task;
 use crate::task_calls::{is_task_call, target};
+use crate::timer_calls::is_timer_call;
 use decisions::{ended_delay, handed, reply, success};
 use event_flags::FlagGroup;
 use kern_base::{Answer, Around, Decision, ObjId, OsErr, Outcome, Request, Service, TaskId, Who};
@@ -29,9 +31,9 @@ use message_store::MessageStore;
 use tick_timers::Ticks;
 
 impl Records {
-    /// Makes what was decided of a call: a task is suspended or resumed; or what the call is about changes, tasks are woken in this
-    /// order, or looked at by a post of event flags, or the caller waits. What the call came to is written over an older outcome,
-    /// whatever that was.
+    /// Makes what was decided of a call: a task is suspended or resumed, or another one has its turn; or what the call is about
+    /// changes, tasks are woken in this order, or looked at by a post of event flags, or the caller waits. What the call came to
+    /// is written over an older outcome, whatever that was.
     pub fn conclude(
         &mut self,
         request: &Request,
@@ -49,7 +51,7 @@ impl Records {
         requires single { AreSingle self.old.state }
         requires fresh { decision.now ≡ Block → IsUnmatched seen.now.caller.0 self.old.state.matches }
         requires objects { All (λ o. o < 64) (objects_waited decision.now request.now) }
-        ensures records { self.new ≡ record self.old { state = records_after decision.now request.now seen.now.caller.0 woken.now self.old.state } }
+        ensures records { self.new ≡ record self.old { state = records_after decision.now request.now seen.now.caller.0 seen.now.first woken.now self.old.state } }
         ensures outcome { outcome.new ≡ outcome_after decision.now request.now seen.now.caller.0 woken.now self.old.state }
     {
         if moves_task(request.service, decision) {
@@ -59,7 +61,7 @@ impl Records {
         }
     }
 
-    // The same of a call that suspends no task and resumes none.
+    // The same of a call that moves no task in the ready lists.
     fn conclude_decided(
         &mut self,
         request: &Request,
@@ -101,8 +103,8 @@ impl Records {
         }
     }
 
-    // The change of what a call is about: the scheduler, or where the call is not refused the own semaphore or queue of a task, or
-    // the object that it names.
+    // The change of what a call is about: the scheduler, or where the call is not refused a timer, the own semaphore or queue of
+    // a task, or another object that it names.
     fn apply(&mut self, request: &Request, seen: &Around, decision: &Decision)
         requires caller { seen.now.caller.0 < 64 }
         requires decided { decision.now ≡ decision_of request.now seen.now self.old.state }
@@ -111,6 +113,8 @@ impl Records {
     {
         if is_scheduler_call(request.service) {
             self.change_lock(request.service, decision);
+        } else if is_timer_call(request.service) {
+            self.apply_to_timer(request);
         } else {
             self.apply_to_objects(request, seen, decision);
         }
@@ -133,11 +137,12 @@ impl Records {
         }
     }
 
-    // The change of a task's own semaphore or queue, or of the object that a call names.
+    // The change of a task's own semaphore or queue, or of the object that a call names, where it is no timer.
     fn apply_to_objects(&mut self, request: &Request, seen: &Around, decision: &Decision)
         requires caller { seen.now.caller.0 < 64 }
         requires decided { decision.now ≡ decision_of request.now seen.now self.old.state }
         requires call { is_scheduler_call request.now.service ≡ false }
+        requires held { is_timer_call request.now.service ≡ false }
         requires acts { acts decision.now ≡ true }
         ensures { self.new ≡ record self.old { state = changed_by request.now seen.now.caller.0 decision.now self.old.state } }
     {
@@ -272,7 +277,7 @@ impl Records {
     }
 
     // The task waits no more, and a result with this answer waits for it.
-    fn give(&mut self, task: TaskId, answer: Answer)
+    pub(crate) fn give(&mut self, task: TaskId, answer: Answer)
         requires task { task.0 < 64 }
         requires single { IsSingle (task_at self.old.state task.0).waiting }
         ensures { self.new ≡ record self.old { state = given task.0 (result_of answer) self.old.state } }

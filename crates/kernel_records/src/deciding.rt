@@ -11,7 +11,7 @@ ghost use Rattle.served.specs.Served.{program_serves};
 ghost use Rattle.task_objects.specs.Rows.{is_task_call, target};
 ghost use Rattle.kernel_records.specs.Concluding.{bits_left};
 ghost use Rattle.kernel_records.specs.Served.{serves_object};
-ghost use Rattle.kernel_records.specs.SchedulerCalls.{is_scheduler_call};
+ghost use Rattle.kernel_records.specs.SchedulerCalls.{is_scheduler_call, is_tick};
 ghost use Rattle.kernel_records.specs.Deciding.{IsCallOn, IsObjectRow, IsRow, IsServedDecision, decision_about, decision_by, decision_of, decision_on_objects};
 ghost use Rattle.kernel_records.specs.ObjectView.{content_seen};
 ghost use Rattle.message_store.specs.Store.{queue_at};
@@ -20,6 +20,7 @@ use crate::objects::Content;
 use crate::records::Records;
 use crate::scheduler_calls::is_scheduler_call;
 use crate::task_calls::{is_task_call, target};
+use crate::timer_calls::is_timer_call;
 use call_checks::{argument_refusal, existence_refusal, named_task};
 use decisions::refuse;
 use kern_base::{Around, Decision, ObjId, OsErr, Request, TaskId};
@@ -33,9 +34,10 @@ const APPLICATION_LIMIT: u8 = 60;
 const TASKS: u32 = 64;
 
 impl Records {
-    /// What a call comes to, with this around what it is about. Nothing changes yet.
+    /// What a call other than `OSTimeTick` comes to, with this around what it is about. Nothing changes yet.
     pub fn decide(&self, request: &Request, seen: &Around) -> Decision
         requires caller { seen.now.caller.0 < 64 }
+        requires call { is_tick request.now.service ≡ false }
         ensures value { result ≡ decision_of request.now seen.now self.now.state }
 
         // It is what the service does, whatever the lists are.
@@ -100,6 +102,7 @@ impl Records {
     fn decide_checked(&self, request: &Request, seen: &Around) -> Decision
         requires caller { seen.now.caller.0 < 64 }
         requires served { program_serves request.now.service ≡ true }
+        requires call { is_tick request.now.service ≡ false }
         requires passed { call_error request.now seen.now.caller.0 self.now.state ≡ None }
         ensures value { result ≡ decision_about request.now seen.now self.now.state }
         ensures row { IsRow request.now seen.now result self.now.state }
@@ -107,6 +110,8 @@ impl Records {
     {
         if is_scheduler_call(request.service) {
             self.decide_on_scheduler(request, seen)
+        } else if is_timer_call(request.service) {
+            self.decide_on_timer(request)
         } else {
             self.decide_on_objects(request, seen)
         }

@@ -12,16 +12,7 @@ ghost use Rattle.kernel_records.specs.ObjectView.{content_seen};
 use event_flags::FlagGroup;
 use kern_base::Request;
 use semaphores::Sem;
-
-// A timer at rest: no service starts one yet.
-#[derive(Clone, Copy)]
-pub(crate) struct Timer {
-    pub periodic: bool,
-    pub delay: u32,
-    pub period: u32,
-    pub callback: u32,
-    pub argument: u32,
-}
+use tick_timers::Timer;
 
 // What an object holds: a semaphore, a queue, whose messages stand at the object's number in the store of messages, an event flag
 // group, a mutex that nobody owns, a timer.

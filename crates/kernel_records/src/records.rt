@@ -25,7 +25,7 @@ use rv32_exec::{Program, Ram, Stepped};
 use std::alloc::Global;
 use std::marker::Model;
 use tcb_pool::{Tcb, Tcbs};
-use tick_timers::Ticks;
+use tick_timers::{Ticks, Timers};
 
 // What services read of the image.
 #[derive(Clone, Copy)]
@@ -44,9 +44,9 @@ pub struct Records {
     pub(crate) objects: Vec<Object>,
     pub(crate) kinds: Kinds,
     pub(crate) ticks: Ticks,
-    pub(crate) timer_count: u32,
-    pub(crate) tick_signals: u32,
-    pub(crate) timer_signals: u32,
+    pub(crate) timers: Timers,
+    pub(crate) tick_signals: u64,
+    pub(crate) timer_signals: u64,
     pub(crate) tick_calls: u32,
     pub(crate) processing: bool,
     pub(crate) in_callback: bool,
@@ -78,7 +78,7 @@ impl Records {
             objects: start_objects(alloc, image.objects())?,
             kinds: start_kinds(image.objects(), image.tasks().len() as u8),
             ticks: Ticks::new(),
-            timer_count: 0,
+            timers: Timers::new(),
             tick_signals: 0,
             timer_signals: 0,
             tick_calls: 0,

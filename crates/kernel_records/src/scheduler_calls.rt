@@ -1,6 +1,7 @@
-// Calls on the scheduler: its lock, its ticks, delays, and suspension of tasks.
+// Calls on the scheduler: its lock, its ticks, delays, suspension of tasks, and the yield.
 
 ghost use Rattle.std.specs.Prelude.{◌≡◌, ◌<◌, true};
+ghost use Rattle.kern_base.specs.declared.services.Service.TheVariants.{RoundRobinYield};
 ghost use Rattle.kern_model.specs.State.{task_at};
 ghost use Rattle.decisions.specs.Around.{first_waiter};
 ghost use Rattle.tick_timers.specs.Delays.{is_delayed};
@@ -10,6 +11,7 @@ use crate::records::Records;
 use call_checks::named_task;
 use decisions::{failure, refuse, success};
 use kern_base::{Answer, Around, Decision, OsErr, Request, Service, TaskId};
+use round_robin::decide_yield;
 use tick_timers::{decide_resume, is_delayed};
 
 // The scheduler is locked so often at most.
@@ -21,7 +23,7 @@ const TIMER: TaskId = TaskId(61);
 // There are so many tasks.
 const TASKS: u32 = 64;
 
-/// Whether a call of this service is on the scheduler: its lock, its ticks, a delay, or a suspension.
+/// Whether a call of this service is on the scheduler: its lock, its ticks, a delay, a suspension, or the yield.
 pub fn is_scheduler_call(service: Service) -> bool
     ensures { result ≡ is_scheduler_call service }
 {
@@ -34,6 +36,8 @@ pub fn is_scheduler_call(service: Service) -> bool
             | Service::TimeDlyResume
             | Service::TaskSuspend
             | Service::TaskResume
+            | Service::RoundRobinYield
+            | Service::TimeTick
     )
 }
 
@@ -80,6 +84,9 @@ impl Records {
             }
             Service::TaskSuspend => self.decide_suspend(request, seen),
             Service::TaskResume => self.decide_task_resume(request, seen),
+            Service::RoundRobinYield => {
+                decide_yield(seen.first, seen.locked, self.settings.round_robin)
+            }
             _ => refuse(OsErr::CallUnknown),
         }
     }
@@ -92,9 +99,10 @@ impl Records {
         number < TASKS && is_delayed(self.tasks.get(TaskId(number as u8)).wait)
     }
 
-    /// The one that waits for what a call on the scheduler is about: the task whose delay is to end.
+    /// The one that waits for what a call on the scheduler other than a yield is about: the task whose delay is to end.
     pub fn delayed_task(&self, request: &Request, caller: TaskId) -> Option<TaskId>
-        requires { is_scheduler_call request.now.service ≡ true }
+        requires call { is_scheduler_call request.now.service ≡ true }
+        requires other { request.now.service ≡ RoundRobinYield → ⊥ }
         ensures { result ≡ first_waiter (scheduler_waiters request.now.service request.now caller.0 self.now.state) }
     {
         if !matches!(request.service, Service::TimeDlyResume) {

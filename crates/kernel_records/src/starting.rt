@@ -1,15 +1,16 @@
 // The objects at the start.
 
 ghost use Rattle.std.specs.Prelude.{◌≡◌, ◌≤◌, length, map, IfOk};
-ghost use Rattle.kern_model.specs.Start.{object_of, timer_of};
-ghost use Rattle.kernel_records.specs.ObjectView.{declared_queue, object_seen, objects_in, timer_seen};
+ghost use Rattle.kern_model.specs.Start.{object_of};
+ghost use Rattle.kernel_records.specs.ObjectView.{declared_queue, object_seen, objects_in};
 
-use crate::objects::{Content, Object, Timer};
+use crate::objects::{Content, Object};
 use app_image::{ObjDef, kinds_in};
 use event_flags::FlagGroup;
 use kern_base::{Kind, Kinds, NoMemory};
 use semaphores::Sem;
 use std::alloc::Global;
+use tick_timers::Timer;
 
 // The objects as they were declared.
 pub(crate) fn start_objects(alloc: Global, defs: &[ObjDef]) -> Result<Vec<Object>, NoMemory>
@@ -44,24 +45,11 @@ fn start_object(def: &ObjDef) -> Object
         Kind::Queue => Content::Messages,
         Kind::Flags => Content::Flags(FlagGroup { bits: first }),
         Kind::Mutex => Content::Free,
-        Kind::OneShot => Content::Timed(start_timer(false, &def.f)),
-        Kind::Periodic => Content::Timed(start_timer(true, &def.f)),
+        Kind::OneShot => Content::Timed(Timer::declared(false, &def.f)),
+        Kind::Periodic => Content::Timed(Timer::declared(true, &def.f)),
     };
     Object {
         content,
         deleted: false,
-    }
-}
-
-// A timer as it was declared.
-fn start_timer(periodic: bool, f: &[u32; 4]) -> Timer
-    ensures { timer_seen result ≡ timer_of periodic f.now }
-{
-    Timer {
-        periodic,
-        delay: f[0],
-        period: f[1],
-        callback: f[2],
-        argument: f[3],
     }
 }

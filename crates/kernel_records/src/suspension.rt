@@ -1,10 +1,10 @@
-// Suspension of tasks: what a call comes to, and what its last micro-step makes.
+// Suspension of tasks, and the yield: what a call comes to, and what its last micro-step makes.
 
 ghost use Rattle.std.specs.Prelude.{◌≡◌, ◌≤◌, ◌==◌, ◌&&◌, ℕ, true};
 ghost use Rattle.kern_model.specs.State.{nesting_limit, task_at};
 ghost use Rattle.kern_model.specs.Checks.{named_task};
 ghost use Rattle.kernel_records.specs.Deciding.{decision_of};
-ghost use Rattle.kernel_records.specs.Suspension.{acts, moves_task, outcome_moved, records_moved, suspend_decision, task_resume_decision};
+ghost use Rattle.kernel_records.specs.Suspension.{acts, moves_task, outcome_moved, records_moved, refilled_first, suspend_decision, task_resume_decision};
 
 use crate::changes::{resume_task, suspend_task};
 use crate::records::Records;
@@ -18,11 +18,15 @@ const NESTING_LIMIT: u8 = 250;
 // There are so many tasks.
 const TASKS: u32 = 64;
 
-/// Whether this decision on a call of a service suspends a task, or resumes one.
+/// Whether this decision on a call of a service suspends a task, or resumes one, or lets its caller go to the tail of its list.
 pub fn moves_task(service: Service, decision: &Decision) -> bool
     ensures { result ≡ moves_task service decision.now }
 {
-    matches!(service, Service::TaskSuspend | Service::TaskResume) && acts(decision)
+    let moves = matches!(
+        service,
+        Service::TaskSuspend | Service::TaskResume | Service::RoundRobinYield
+    );
+    moves && acts(decision)
 }
 
 // Whether something comes of a decision: a call that is refused changes nothing.
@@ -91,7 +95,7 @@ impl Records {
         decide_task_resume(own, self.suspended(number))
     }
 
-    // The task that the call names is suspended once more, or once less.
+    // The task that the call names is suspended once more, or once less; of a yield the next task has its full quantum.
     pub(crate) fn move_task(
         &mut self,
         request: &Request,
@@ -101,13 +105,17 @@ impl Records {
         requires decided { decision.now ≡ decision_of request.now seen.now self.old.state }
         requires moves { moves_task request.now.service decision.now ≡ true }
         requires few { (x : ℕ) → (task_at self.old.state x).suspended ≤ nesting_limit }
-        ensures records { self.new ≡ record self.old { state = records_moved request.now.service (named_task request.now seen.now.caller.0) seen.now.caller.0 self.old.state } }
+        ensures records { self.new ≡ record self.old { state = records_moved request.now.service (named_task request.now seen.now.caller.0) seen.now.caller.0 seen.now.first self.old.state } }
         ensures outcome { result ≡ outcome_moved request.now.service (named_task request.now seen.now.caller.0 == seen.now.caller.0) }
     {
         let number = named_task(request.args[0], seen.caller);
         let own = number == u32::from(seen.caller.0);
         let answered = Outcome::Answered(success(0), None);
         match request.service {
+            Service::RoundRobinYield => {
+                self.refill_first(seen.first);
+                answered
+            }
             Service::TaskSuspend => {
                 suspend_task(&mut self.tasks, TaskId(number as u8), own);
                 if own { Outcome::Waits } else { answered }
@@ -116,6 +124,19 @@ impl Records {
                 resume_task(&mut self.tasks, TaskId(number as u8));
                 answered
             }
+        }
+    }
+
+    // The first task behind one that yields has its full quantum again.
+    fn refill_first(&mut self, first: Option<TaskId>)
+        ensures { self.new ≡ record self.old { state = refilled_first first self.old.state } }
+    {
+        let _ = &self.tasks;
+        let Some(task) = first else {
+            return;
+        };
+        if task.0 < 64 {
+            self.refill(task);
         }
     }
 }

@@ -83,6 +83,15 @@ decision_left (Done a) ts q = drop q.made q.known.items
 decision_left Block ts q = drop q.made (block_links ts q.caller.0 q.objects.items)
 decision_left (Wake w) ts q = woken_left w ts q
 
--- the links that are left, with the end of the step
+-- the link behind those of the decision, where there is one
+abbrev pub last_links : Option Link → List Link
+last_links None = []
+last_links (Some k) = k ∷ []
+
+-- what is left behind the decision: that link, and the end of the step
+abbrev pub end_left : Plan → List Link
+end_left q = last_links q.last ++ (if q.ended then [] else link.Plain ∷ [])
+
+-- the links that are left
 abbrev pub links_left : List Task → Plan → List Link
-links_left ts q = decision_left q.decision ts q ++ (if q.ended then [] else link.Plain ∷ [])
+links_left ts q = decision_left q.decision ts q ++ end_left q

@@ -3,7 +3,7 @@
 ghost use Rattle.std.specs.Prelude.{◌≡◌, ◌<◌, ◌≤◌, ℕ, [], ◌∷◌, drop, length, All, IsSome, MatchOption, None, slice_get, true};
 ghost use Rattle.kern_model.specs.FlagBits.{ready_bits};
 ghost use Rattle.tcb_pool.specs.TaskView.{task_of};
-ghost use Rattle.link_plans.specs.Plans.{block_links, links_left, look_links, wake_links, woken_left, woken_links};
+ghost use Rattle.link_plans.specs.Plans.{block_links, end_left, links_left, look_links, wake_links, woken_left, woken_links};
 
 use arrayvec::ArrayVec;
 use event_flags::FlagGroup;
@@ -25,6 +25,8 @@ pub struct Plan {
     pub woken: ArrayVec<u8, 64>,
     /// The links, known when the step begins, of a call that is answered.
     pub known: ArrayVec<Link, 4>,
+    /// The link behind all these, where there is one: an internal task that waits for its next signal.
+    pub last: Option<Link>,
     /// The bits of the event flag group that a post leaves; 0 in any other plan.
     pub bits: u32,
     /// How many of these tasks are done with.
@@ -51,18 +53,36 @@ impl Plan {
             Decision::Block => self.next_of_block(tasks),
             Decision::Wake(who) => self.next_of_wakes(who, tasks),
         };
-        if next.is_none() && !self.ended {
-            self.ended = true;
-            return Some(Link::Plain);
+        if next.is_some() {
+            return next;
         }
-        next
+        self.next_of_end()
+    }
+
+    // The link behind those of the decision, and the end of the step.
+    fn next_of_end(&mut self) -> Option<Link>
+        ensures next { MatchOption result (end_left self.old ≡ []) (λ link. end_left self.old ≡ link ∷ end_left self.new) }
+        ensures kept { (self.new.decision ≡ self.old.decision) × (self.new.caller ≡ self.old.caller) × (self.new.compared ≡ self.old.compared) × (self.new.objects ≡ self.old.objects) × (self.new.woken ≡ self.old.woken) × (self.new.known ≡ self.old.known) × (self.new.bits ≡ self.old.bits) }
+        ensures others { (self.new.task ≡ self.old.task) × (self.new.made ≡ self.old.made) }
+        ensures ended { self.old.ended ≡ true → self.new.ended ≡ true }
+        ensures none { result ≡ None → self.new ≡ self.old }
+    {
+        if let Some(link) = self.last {
+            self.last = None;
+            return Some(link);
+        }
+        if self.ended {
+            return None;
+        }
+        self.ended = true;
+        Some(Link::Plain)
     }
 
     // The links that were known, one after another.
     fn next_known(&mut self) -> Option<Link>
         ensures next { MatchOption result (drop self.old.made self.old.known.items ≡ []) (λ link. drop self.old.made self.old.known.items ≡ link ∷ drop self.new.made self.old.known.items) }
         ensures kept { (self.new.decision ≡ self.old.decision) × (self.new.caller ≡ self.old.caller) × (self.new.compared ≡ self.old.compared) × (self.new.objects ≡ self.old.objects) × (self.new.woken ≡ self.old.woken) × (self.new.known ≡ self.old.known) × (self.new.bits ≡ self.old.bits) }
-        ensures others { (self.new.task ≡ self.old.task) × (self.new.ended ≡ self.old.ended) }
+        ensures others { (self.new.task ≡ self.old.task) × (self.new.ended ≡ self.old.ended) × (self.new.last ≡ self.old.last) }
         ensures none { result ≡ None → self.new.made ≡ self.old.made }
     {
         let made = self.made as usize;
@@ -78,7 +98,7 @@ impl Plan {
         requires caller { self.old.caller.0 < 64 }
         ensures next { MatchOption result (drop self.old.made (block_links tasks.now.tasks self.old.caller.0 self.old.objects.items) ≡ []) (λ link. drop self.old.made (block_links tasks.now.tasks self.old.caller.0 self.old.objects.items) ≡ link ∷ drop self.new.made (block_links tasks.now.tasks self.old.caller.0 self.old.objects.items)) }
         ensures kept { (self.new.decision ≡ self.old.decision) × (self.new.caller ≡ self.old.caller) × (self.new.compared ≡ self.old.compared) × (self.new.objects ≡ self.old.objects) × (self.new.woken ≡ self.old.woken) × (self.new.known ≡ self.old.known) × (self.new.bits ≡ self.old.bits) }
-        ensures others { (self.new.task ≡ self.old.task) × (self.new.ended ≡ self.old.ended) }
+        ensures others { (self.new.task ≡ self.old.task) × (self.new.ended ≡ self.old.ended) × (self.new.last ≡ self.old.last) }
         ensures none { result ≡ None → self.new.made ≡ self.old.made }
     {
         let prio = tasks.get(self.caller).prio;
@@ -101,7 +121,7 @@ impl Plan {
         requires woken { All (λ x. x < 64) self.old.woken.items }
         ensures next { MatchOption result (woken_left who tasks.now.tasks self.old ≡ []) (λ link. woken_left who tasks.now.tasks self.old ≡ link ∷ woken_left who tasks.now.tasks self.new) }
         ensures kept { (self.new.decision ≡ self.old.decision) × (self.new.caller ≡ self.old.caller) × (self.new.compared ≡ self.old.compared) × (self.new.objects ≡ self.old.objects) × (self.new.woken ≡ self.old.woken) × (self.new.known ≡ self.old.known) × (self.new.bits ≡ self.old.bits) }
-        ensures others { self.new.ended ≡ self.old.ended }
+        ensures others { (self.new.ended ≡ self.old.ended) × (self.new.last ≡ self.old.last) }
         ensures none { result ≡ None → woken_left who tasks.now.tasks self.new ≡ [] }
     {
         while self.task < self.woken.len() {

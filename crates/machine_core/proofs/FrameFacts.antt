@@ -12,10 +12,8 @@ use Rattle.kern_base.specs.declared.kinds.Method.TheVariants.{Direct, Deferred}
 use Rattle.kern_base.specs.declared.numbers.TaskId.{TaskId}
 use Rattle.kern_base.specs.declared.outcomes.Answer.{Answer}
 use Rattle.kern_base.specs.declared.services.Service.{Service}
-use Rattle.kern_model.specs.Call.{call_of}
 use Rattle.kern_model.specs.State.{prio_of, kinds_of}
 use Rattle.served.specs.Served.{program_serves}
-use Rattle.kern_model.specs.Services.{post_request}
 use Rattle.kernel_calls.specs.KernelRecord.{KernelRecord, with_state}
 use Rattle.rv32_exec.specs.Registers.{Registers, read}
 use Rattle.rv32_exec.specs.Exec.{Execution, exec}
@@ -43,10 +41,9 @@ use Rattle.machine_core.specs.MethodMachine.{next_machine}
 use Rattle.machine_core.specs.MachineView.{machine_of, method_machine_of, hand_of, IsKept, IsFitHand, HasVectors}
 use Rattle.machine_core.specs.Valid.{change, changed, most_task_steps}
 use Rattle.machine_core.proofs.ComingLaws.{Comes, free-is}
-use Rattle.machine_core.proofs.MachineFacts.{by_rule, none_fit, steady_in, with_method}
+use Rattle.machine_core.proofs.MachineFacts.{by_rule, none_fit, with_method}
 use Rattle.machine_core.proofs.KeptLaws.{kept-change, next-same}
-use Rattle.machine_core.proofs.StillLaws.{IsSteady, steady-effect}
-use Rattle.machine_core.proofs.FrameRules.{after-is, comes-runs, IsStep, step-runs, keeps-step, goes-direct, goes-deferred}
+use Rattle.machine_core.proofs.FrameRules.{after-is, comes-runs, IsStep, step-runs, goes-direct, goes-deferred}
 
 -- An interrupt enters.
 
@@ -75,7 +72,7 @@ module _ (a : Parts) (number : ℕ) (c : Comes a number) (n : Nest) (frames : op
   pub enters-kept : IsKept a → a.t < most_task_steps → IsKept (record a { frames = n })
   enters-kept k open_yet =
       kept-change a (record a { frames = n }) k open_yet enters-machine
-      (record { still = k.parts.still; kinds = k.parts.kinds; work = k.parts.work; size = k.parts.size; vectors = vectors-entered k.parts.vectors; looks = k.parts.looks })
+      (record { kinds = refl; work = k.parts.work; size = k.parts.size; vectors = vectors-entered k.parts.vectors; looks = k.parts.looks })
 
   pub enters-next : method_machine_of (record a { frames = n }) ≡ next_machine (method_machine_of a)
   enters-next = next-same a (record a { frames = n }) enters-machine (ap raw c.rule_is)
@@ -128,7 +125,7 @@ module _ (a : Parts) (f : FrameRecord) (below : List FrameRecord) (k : IsKept a)
   pub limit-kept : a.t < most_task_steps → IsKept (record a { frames = n; current = current })
   limit-kept open_yet =
       kept-change a (record a { frames = n; current = current }) k open_yet limit-machine
-      (record { still = k.parts.still; kinds = k.parts.kinds; work = k.parts.work; size = k.parts.size; vectors = vectors-left a f below n top nest k.parts.vectors; looks = k.parts.looks })
+      (record { kinds = refl; work = k.parts.work; size = k.parts.size; vectors = vectors-left a f below n top nest k.parts.vectors; looks = k.parts.looks })
 
 -- The top frame runs one instruction.
 
@@ -182,14 +179,6 @@ vectors-runs Deferred m f below h =
     subst (All (λ (g : FrameRecord). g.vector < 32)) (deferred-is m f below).frames
     (vectors-step (post_later (prio_of m.kernel m.current)) (kinds_of m.kernel) (queue_of m) f below h e.did e (marks_after (next_instruction m.code f.registers) f.marks) m.memory)
 
-steady-runs : (d : Method) (m : Machine) (f : FrameRecord) (below : List FrameRecord) (table : KindTable) → IsSteady table m.kernel → IsSteady table (frame_runs program_serves d f below m).machine.kernel
-steady-runs Direct m f below table h =
-    let e = exec m.code f.registers m.memory in
-    let p = prio_of m.kernel m.current in
-    subst (IsSteady table) (direct-is m f below).kernel
-    (keeps-step (post_at_once p) (kinds_of m.kernel) (λ (k : KernelRecord). IsSteady table k.state) (kernel_of m) h (λ s args. steady-effect table (call_of (post_request s args) 63 p p) m.kernel h) e.did e f below (marks_after (next_instruction m.code f.registers) f.marks) m.memory)
-steady-runs Deferred m f below table h = subst (IsSteady table) (deferred-is m f below).kernel h
-
 -- by the direct method nothing is in hand while a frame stands, and by the deferred one its kernel stays
 work-runs : (a : Parts) (f : FrameRecord) (below : List FrameRecord) (d : Method) → a.method ≡ d → IsKept a → a.frames.frames ≡ f ∷ below → IsFitHand a.config a.kernel.hand
 work-runs a f below Direct e k top =
@@ -218,11 +207,9 @@ module _ (a : Parts) (f : FrameRecord) (below : List FrameRecord) (k : IsKept a)
 
     pub runs-kept : a.t < most_task_steps → later.size ≡ a.later.size → IsKept (record a { kernel = kernel; later = later; frames = n; ram = ram; current = current })
     runs-kept open_yet size =
-        let steady : IsSteady a.kinds kernel.state = rw kernel_is (steady-runs a.method (machine_of a) f below a.kinds (steady_in a k)) in
         kept-change a (record a { kernel = kernel; later = later; frames = n; ram = ram; current = current }) k open_yet runs-machine
         (record {
-          still = steady.still;
-          kinds = steady.kinds;
+          kinds = refl;
           work = rw kernel_is (work-runs a f below a.method refl k top);
           size = size ∙ k.parts.size;
           vectors = rw nest (record { frames = vectors-runs a.method (machine_of a) f below (rw top at k.parts.vectors.frames); waiting = k.parts.vectors.waiting });

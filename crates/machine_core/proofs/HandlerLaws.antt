@@ -1,20 +1,20 @@
 -- The handler of deferred posts is no task: it stands in no list, also in the middle of a whole step.
-use Rattle.std.specs.Prelude.{take, insert, length, replicate, if◌then◌else◌, ◌==◌, ◌&&◌, ◌||◌, ◌-◌, ◌^◌, nat_lt}
+use Rattle.std.specs.Prelude.{take, insert, length, replicate, if◌then◌else◌, ◌==◌, ◌&&◌, ◌||◌, ◌-◌, ◌^◌, nat_lt, not}
 use Rattle.std.proofs.Common.{◌≡◌, ◌≢◌, ℕ, zero, suc, ◌+◌, List, [], ◌∷◌, ◌++◌, Bool, true, false, Option, Some, None, refl, sym, ap, ◌∙◌, subst, inl, inr, arith, ne_eqb, length-set}
 use Rattle.std.proofs.lemmas.Bool.{false≢true}
 use Rattle.std.proofs.lemmas.Bool.Decides.{eqb_tells, leb_tells}
 use Rattle.std.proofs.lemmas.List.{get_or_past}
 use Rattle.kern_base.specs.declared.services.Service.{Service}
-use Rattle.kern_base.specs.declared.services.Service.TheVariants.{SemPost, QPost, FlagPost, TaskSemPost, TaskQPost, SemPend, QPend, FlagPend, TaskSemPend, TaskQPend, SchedLock, SchedUnlock, TimeGet, TimeDly, TimeDlyResume, SemPendAbort, QPendAbort, FlagPendAbort, TaskSemPendAbort, TaskQPendAbort, SemDel, QDel, FlagDel, TaskSuspend, TaskResume}
+use Rattle.kern_base.specs.declared.services.Service.TheVariants.{SemPost, QPost, FlagPost, TaskSemPost, TaskQPost, SemPend, QPend, FlagPend, TaskSemPend, TaskQPend, SchedLock, SchedUnlock, TimeGet, TimeDly, TimeDlyResume, SemPendAbort, QPendAbort, FlagPendAbort, TaskSemPendAbort, TaskQPendAbort, SemDel, QDel, FlagDel, TaskSuspend, TaskResume, TimeTick, RoundRobinYield, TmrStart, TmrStop, TmrRemainGet, TmrStateGet, TmrDel}
 use Rattle.kern_base.specs.Services.{is_post, names_task}
 use Rattle.kern_base.specs.declared.requests.Request.{Request}
 use Rattle.kern_base.specs.declared.errors.OsErr.{OsErr}
-use Rattle.kern_base.specs.declared.errors.OsErr.TheVariants.{SemOverflow, SchedLocked, SchedNotLocked, LockOverflow, PendAbortSelf, CallUnknown, Depth, TaskResumeSelf}
+use Rattle.kern_base.specs.declared.errors.OsErr.TheVariants.{SemOverflow, SchedLocked, SchedNotLocked, LockOverflow, PendAbortSelf, CallUnknown, Depth, TaskResumeSelf, RoundRobinDisabled, RoundRobinAlone}
 use Rattle.kern_base.specs.declared.outcomes.Waiting.{Waiting}
 use Rattle.kern_base.specs.declared.outcomes.Waiting.TheVariants.{No, Delay, Obj, TaskSem, TaskQ, Multi, Signal}
 use Rattle.kern_model.specs.Call.{Call}
-use Rattle.kern_model.specs.State.{Kernel, Content, Count, Messages, Bits, Held, Timed, count_of, is_ready, list_at, object_at, prio_of, task_at, update_list, waits_for_nothing, with_content, with_task, without, nesting_limit, timer_task}
-use Rattle.kern_model.specs.Micro.{Micro, Plain, JoinForward, JoinBack, LeaveForward, LeaveBack, Mark, Ready, Pend, Block, Lists, Halves, changed, changed_all, in_order, after, plain, wait_place, whole, lists_of}
+use Rattle.kern_model.specs.State.{Kernel, Content, Count, Messages, Bits, Held, Timed, Timer, TimerState, Stopped, Running, Completed, count_of, is_ready, list_at, object_at, prio_of, task_at, update_list, waits_for_nothing, with_content, with_task, without, nesting_limit, tick_task, timer_task, idle_task}
+use Rattle.kern_model.specs.Micro.{Micro, Plain, JoinForward, JoinBack, LeaveForward, LeaveBack, Mark, Ready, Pend, Block, Lists, Halves, changed, changed_all, in_order, join_place, after, plain, wait, wait_place, whole, lists_of}
 use Rattle.kern_model.specs.Effect.{Effect, Wait, refused, done, fine, chosen, waits_unless, blocks_on, waits_for, leave_blocks, ready_blocks, wake_blocks, wakes_blocks, wait_blocks, block_blocks}
 use Rattle.kern_model.specs.Checks.{argument, call_error, named_task}
 use Rattle.kern_model.specs.FlagBits.{bits_after, ready_bits}
@@ -24,7 +24,9 @@ use Rattle.kern_model.specs.Queues.{q_pend, q_post, q_post_to, store_error, stor
 use Rattle.kern_model.specs.TaskObjects.{task_abort, task_abort_of, waits_for_queue, waits_for_semaphore, task_q_pend_on, task_q_post_to, task_sem_pend_on, task_sem_post_to, task_store}
 use Rattle.kern_model.specs.Semaphores.{sem_post_to, sem_post, sem_pend}
 use Rattle.kern_model.specs.Tasks.{resumed_blocks, resumes, sched_lock, sched_unlock, suspends, task_resume, task_suspend, unlocks, unready_blocks}
-use Rattle.kern_model.specs.Time.{delay_of, delays, resumes_delayed, time_dly}
+use Rattle.kern_model.specs.RoundRobin.{first_in, is_alone, rotates, round_robin, round_robin_yield, spends}
+use Rattle.kern_model.specs.Time.{delay_of, delays, resumes_delayed, signalled, signals_tick, signals_timer, time_dly, time_tick}
+use Rattle.kern_model.specs.Timers.{tmr_del, tmr_remain_get, tmr_start, tmr_state_get, tmr_stop, tmr_stop_in}
 use Rattle.kern_model.specs.Waiters.{aborts, delete, deletes, pend_abort}
 use Rattle.served.specs.Served.{program_serves}
 use Rattle.kern_model.specs.Services.{effect, after_checks, perform, blocks, half}
@@ -67,12 +69,12 @@ free-leave lists p x h =
 
 -- Micro-steps in which the handler joins no list.
 
-abbrev IsApart : Micro → Type 0
+abbrev pub IsApart : Micro → Type 0
 IsApart (JoinForward c x i) = x ≢ 63
 IsApart (JoinBack c x i) = x ≢ 63
 IsApart m = Unit {0}
 
-abbrev AreApart : List Micro → Type 0
+abbrev pub AreApart : List Micro → Type 0
 AreApart [] = Unit {0}
 AreApart (m ∷ ms) = IsApart m × AreApart ms
 
@@ -108,7 +110,7 @@ apart-plains (suc i) = (tt, apart-plains i)
 
 -- Blocks of such micro-steps.
 
-abbrev AreBlocks : List Block → Type 0
+abbrev pub AreBlocks : List Block → Type 0
 AreBlocks [] = Unit {0}
 AreBlocks (b ∷ bs) = ((l : Lists) → AreApart (b l)) × AreBlocks bs
 
@@ -116,7 +118,7 @@ apart-in_order : (bs : List Block) (l : Lists) → AreBlocks bs → AreApart (in
 apart-in_order [] l a = tt
 apart-in_order (b ∷ bs) l a = apart-append (b l) (in_order bs (after (b l) l)) (a.0 l) (apart-in_order bs (after (b l) l) a.1)
 
-blocks-append : (bs cs : List Block) → AreBlocks bs → AreBlocks cs → AreBlocks (bs ++ cs)
+pub blocks-append : (bs cs : List Block) → AreBlocks bs → AreBlocks cs → AreBlocks (bs ++ cs)
 blocks-append [] cs a b = b
 blocks-append (x ∷ bs) cs a b = (a.0, blocks-append bs cs a.1 b)
 
@@ -142,24 +144,28 @@ first-other x xs none e = let here : (x == 63) ≡ true = rw e refl in let one :
 rest-none : (x : ℕ) (xs : List ℕ) → count_of 63 (x ∷ xs) ≡ 0 → count_of 63 xs ≡ 0
 rest-none x xs none = omega (arith, none)
 
-blocks-wakes : (k : Kernel) (compared : ℕ) (xs : List ℕ) → count_of 63 xs ≡ 0 → AreBlocks (wakes_blocks k compared xs)
+pub blocks-wakes : (k : Kernel) (compared : ℕ) (xs : List ℕ) → count_of 63 xs ≡ 0 → AreBlocks (wakes_blocks k compared xs)
 blocks-wakes k compared [] none = tt
 blocks-wakes k compared (x ∷ xs) none =
     blocks-append (wake_blocks k compared x) (wakes_blocks k compared xs) (blocks-wake k compared x (first-other x xs none)) (blocks-wakes k compared xs (rest-none x xs none))
 
 -- the caller blocks
 
+pub apart-wait : (prio : ℕ → ℕ) (x p o : ℕ) → x ≢ 63 → (l : Lists) → AreApart (wait prio x p o l)
+apart-wait prio x p o other l =
+    let i = wait_place prio p (list_at l.pend o) in
+    apart-append (replicate i Plain) (JoinForward (Pend o) x i ∷ JoinBack (Pend o) x i ∷ []) (apart-plains i) (other, (other, tt))
+
 blocks-waits : (prio : ℕ → ℕ) (x p : ℕ) (os : List ℕ) → x ≢ 63 → AreBlocks (wait_blocks prio x p os)
 blocks-waits prio x p [] other = tt
-blocks-waits prio x p (o ∷ os) other =
-    (λ l. let i = wait_place prio p (list_at l.pend o) in apart-append (replicate i Plain) (JoinForward (Pend o) x i ∷ JoinBack (Pend o) x i ∷ []) (apart-plains i) (other, (other, tt)), blocks-waits prio x p os other)
+blocks-waits prio x p (o ∷ os) other = (apart-wait prio x p o other, blocks-waits prio x p os other)
 
 blocks-block : (k : Kernel) (x : ℕ) (os : List ℕ) → x ≢ 63 → AreBlocks (block_blocks k x os)
 blocks-block k x os other = (λ l. (tt, (tt, tt)), blocks-waits (prio_of k) x (prio_of k x) os other)
 
 -- The services that are served.
 
-abbrev Apart : Effect → Type 0
+abbrev pub Apart : Effect → Type 0
 Apart e = AreBlocks e.blocks
 
 chosen-none : (all : Bool) (xs : List ℕ) → count_of 63 xs ≡ 0 → count_of 63 (chosen all xs) ≡ 0
@@ -369,6 +375,101 @@ apart-task_resume r x h k v lives =
     choice Apart (y == x) (refused k TaskResumeSelf) (resumes n y h k) tt
     (apart-resumes n y h k (λ e. false≢true (sym (ap (λ z. (task_at k z).alive) e ∙ v.internal.handler) ∙ lives)))
 
+-- ticks and round robin
+
+apart-signalled : (w : Waiting) (x h : ℕ) (k : Kernel) → x ≢ 63 → Apart (signalled w x h k)
+apart-signalled Signal x h k other = (λ l. (other, (other, (tt, tt))), tt)
+apart-signalled _ x h k other = tt
+
+free-signalled : (w : Waiting) (x h : ℕ) (k : Kernel) → x ≢ 63 → Free k.ready → Free (signalled w x h k).kernel.ready
+free-signalled Signal x h k other f = let p = prio_of k x in free-join k.ready p (join_place p h (list_at k.ready p)) x other f
+free-signalled _ x h k other f = f
+
+apart-signals_timer : (h : ℕ) (k : Kernel) → Apart (signals_timer h k)
+apart-signals_timer h k =
+    let j : Kernel = record k { tick_calls = 0; timer_signals = k.timer_signals + 1 } in
+    let w = (task_at k timer_task).waiting in
+    choice Apart (nat_lt (k.tick_calls + 1) k.settings.tmr_div) (done (record k { tick_calls = k.tick_calls + 1 }) (fine 0)) (signalled w timer_task h j) tt
+    (apart-signalled w timer_task h j (λ (e : 61 ≡ 63). omega (arith, e)))
+
+apart-rotates : (x p : ℕ) (k : Kernel) → x ≢ 63 → Apart (rotates x p k)
+apart-rotates x p k other = (λ l. (tt, (tt, tt)), (λ l. (other, (other, (tt, tt))), tt))
+
+apart-spends : (xs : List ℕ) (p : ℕ) (k : Kernel) → count_of 63 xs ≡ 0 → Apart (spends xs p k)
+apart-spends [] p k none = tt
+apart-spends (y ∷ []) p k none = tt
+apart-spends (y ∷ z ∷ zs) p k none =
+    let j = with_task k y (λ t. record t { quantum = t.quantum - 1 }) in
+    choice Apart ((task_at j y).quantum == 0) (rotates y p j) (done j (fine 0)) (apart-rotates y p j (first-other y (z ∷ zs) none)) tt
+
+apart-round_robin : (p : ℕ) (k : Kernel) → Free k.ready → Apart (round_robin p k)
+apart-round_robin p k f =
+    choice Apart (k.settings.round_robin && ((k.lock == 0) && not (first_in (list_at k.ready p) == idle_task))) (spends (list_at k.ready p) p k) (done k (fine 0))
+    (apart-spends (list_at k.ready p) p k (f p)) tt
+
+apart-tick : (i h : ℕ) (k : Kernel) → IsLinked k → Apart (time_tick i h k)
+apart-tick i h k v =
+    let w = (task_at k tick_task).waiting in
+    let j : Kernel = record k { tick_signals = k.tick_signals + 1 } in
+    let free : Free j.ready = λ p. inside-ready k v p 63 (omega arith) in
+    let tick : tick_task ≢ 63 = λ (e : 60 ≡ 63). omega (arith, e) in
+    let a = signals_tick h k in
+    let b = round_robin i a.kernel in
+    let c = signals_timer h b.kernel in
+    blocks-append (a.blocks ++ b.blocks) c.blocks
+    (blocks-append a.blocks b.blocks (apart-signalled w tick_task h j tick) (apart-round_robin i a.kernel (free-signalled w tick_task h j tick free)))
+    (apart-signals_timer h b.kernel)
+
+apart-yield : (x : ℕ) (k : Kernel) → x ≢ 63 → Apart (round_robin_yield x k)
+apart-yield x k other =
+    let p = prio_of k x in
+    let alone = if is_alone (list_at k.ready p) then refused k RoundRobinAlone else rotates x p k in
+    choice Apart (not (k.lock == 0)) (refused k SchedLocked) (if not k.settings.round_robin then refused k RoundRobinDisabled else alone) tt
+    (choice Apart (not k.settings.round_robin) (refused k RoundRobinDisabled) alone tt
+    (choice Apart (is_alone (list_at k.ready p)) (refused k RoundRobinAlone) (rotates x p k) tt (apart-rotates x p k other)))
+
+-- timers
+
+apart-tmr_start : (c : Content) (r : Request) (k : Kernel) → Apart (tmr_start c r k)
+apart-tmr_start (Timed t) r k = tt
+apart-tmr_start (Count n) r k = tt
+apart-tmr_start (Messages limit ms) r k = tt
+apart-tmr_start (Bits bits) r k = tt
+apart-tmr_start (Held owner nesting) r k = tt
+
+apart-tmr_stop_in : (state : TimerState) (t : Timer) (o : ℕ) (k : Kernel) → Apart (tmr_stop_in state t o k)
+apart-tmr_stop_in Running t o k = tt
+apart-tmr_stop_in Stopped t o k = tt
+apart-tmr_stop_in Completed t o k = tt
+
+apart-tmr_stop : (c : Content) (r : Request) (k : Kernel) → Apart (tmr_stop c r k)
+apart-tmr_stop (Timed t) r k = apart-tmr_stop_in t.state t (argument r 0) k
+apart-tmr_stop (Count n) r k = tt
+apart-tmr_stop (Messages limit ms) r k = tt
+apart-tmr_stop (Bits bits) r k = tt
+apart-tmr_stop (Held owner nesting) r k = tt
+
+apart-tmr_remain_get : (c : Content) (r : Request) (k : Kernel) → Apart (tmr_remain_get c r k)
+apart-tmr_remain_get (Timed t) r k = tt
+apart-tmr_remain_get (Count n) r k = tt
+apart-tmr_remain_get (Messages limit ms) r k = tt
+apart-tmr_remain_get (Bits bits) r k = tt
+apart-tmr_remain_get (Held owner nesting) r k = tt
+
+apart-tmr_state_get : (c : Content) (k : Kernel) → Apart (tmr_state_get c k)
+apart-tmr_state_get (Timed t) k = tt
+apart-tmr_state_get (Count n) k = tt
+apart-tmr_state_get (Messages limit ms) k = tt
+apart-tmr_state_get (Bits bits) k = tt
+apart-tmr_state_get (Held owner nesting) k = tt
+
+apart-tmr_del : (c : Content) (r : Request) (k : Kernel) → Apart (tmr_del c r k)
+apart-tmr_del (Timed t) r k = tt
+apart-tmr_del (Count n) r k = tt
+apart-tmr_del (Messages limit ms) r k = tt
+apart-tmr_del (Bits bits) r k = tt
+apart-tmr_del (Held owner nesting) r k = tt
+
 -- who waits for its own semaphore or queue waits
 semaphore-waits : (w : Waiting) → waits_for_semaphore w ≡ true → waits_for_nothing w ≡ false
 semaphore-waits TaskSem h = refl
@@ -404,6 +505,13 @@ apart-perform FlagDel call k v e who lives = apart-delete call.request call.comp
 apart-perform TimeDlyResume call k v e who lives = let y = named_task call.request call.caller in apart-resume (task_at k y).waiting y call.compared k refl v
 apart-perform TaskSuspend call k v e who lives = apart-task_suspend call.request call.caller k
 apart-perform TaskResume call k v e who lives = apart-task_resume call.request call.caller call.compared k v (lives refl)
+apart-perform TimeTick call k v e who lives = apart-tick call.interrupted call.compared k v
+apart-perform RoundRobinYield call k v e who lives = apart-yield call.caller k (who refl)
+apart-perform TmrStart call k v e who lives = apart-tmr_start (object_at k (argument call.request 0)).content call.request k
+apart-perform TmrStop call k v e who lives = apart-tmr_stop (object_at k (argument call.request 0)).content call.request k
+apart-perform TmrRemainGet call k v e who lives = apart-tmr_remain_get (object_at k (argument call.request 0)).content call.request k
+apart-perform TmrStateGet call k v e who lives = apart-tmr_state_get (object_at k (argument call.request 0)).content k
+apart-perform TmrDel call k v e who lives = apart-tmr_del (object_at k (argument call.request 0)).content call.request k
 apart-perform _ call k v e who lives = absurd (false≢true e)
 
 apart-checked : (o : Option OsErr) (call : Call) (k : Kernel) → call_error call.request call.caller k ≡ o → IsLinked k → program_serves call.request.service ≡ true → (is_post call.request.service ≡ false → call.caller ≢ 63) → Apart (after_checks o call k)
@@ -421,9 +529,11 @@ without-whole k v =
     let l : AreWithoutHandler (lists_of k) = record { ready = λ p. inside-ready k v p 63 (omega arith); pend = λ o. application-pend k v o 63 (omega arith) } in
     record { forward = l; back = l }
 
+pub without-half_of : (e : Effect) (k : Kernel) (i : ℕ) → IsLinked k → Apart e → HasNoHandler (half e k i)
+without-half_of e k i v a =
+    let bs : AreBlocks (plain ∷ e.blocks ++ plain ∷ []) = (λ l. (tt, tt), blocks-append e.blocks (plain ∷ []) a (λ l. (tt, tt), tt)) in
+    without-all (take i (blocks e k)) (whole (lists_of k)) (apart-take i (blocks e k) (apart-in_order (plain ∷ e.blocks ++ plain ∷ []) (lists_of k) bs)) (without-whole k v)
+
 -- where the handler does nothing but post
 pub without-half : (call : Call) (k : Kernel) (i : ℕ) → IsLinked k → (is_post call.request.service ≡ false → call.caller ≢ 63) → HasNoHandler (half (effect program_serves call k) k i)
-without-half call k i v who =
-    let e = effect program_serves call k in
-    let bs : AreBlocks (plain ∷ e.blocks ++ plain ∷ []) = (λ l. (tt, tt), blocks-append e.blocks (plain ∷ []) (apart-served (program_serves call.request.service) call k v refl who) (λ l. (tt, tt), tt)) in
-    without-all (take i (blocks e k)) (whole (lists_of k)) (apart-take i (blocks e k) (apart-in_order (plain ∷ e.blocks ++ plain ∷ []) (lists_of k) bs)) (without-whole k v)
+without-half call k i v who = without-half_of (effect program_serves call k) k i v (apart-served (program_serves call.request.service) call k v refl who)

@@ -1,4 +1,5 @@
 -- What is always true of the machine's fields stays true with each event.
+use Rattle.std.specs.Prelude.{All, length}
 use Rattle.std.proofs.Common.{◌≡◌, ◌<◌, ◌≤◌, ℕ, ◌+◌, sym, ap, ◌∙◌, subst, arith}
 use Rattle.kern_base.specs.declared.kinds.Method.{Method}
 use Rattle.served.specs.Served.{program_serves}
@@ -10,8 +11,11 @@ use Rattle.machine_model.proofs.CountLaws.{Counts, counts-done}
 use Rattle.machine_laws.specs.Valid.{IsValidMachine}
 use Rattle.machine_laws.proofs.Lemmas.{applies, valid-done, events_left-next}
 use Rattle.machine_core.specs.MethodMachine.{MethodMachine, next_machine}
-use Rattle.machine_core.specs.MachineView.{machine_of, method_machine_of, IsKept, AreParts}
-use Rattle.machine_core.specs.Valid.{most_task_steps, change, changed}
+use Rattle.kernel_records.specs.Ticks.{HasRoom}
+use Rattle.machine_core.specs.LookView.{IsShown}
+use Rattle.machine_core.specs.MachineView.{machine_of, method_machine_of, IsKept, AreParts, IsFitHand, HasVectors}
+use Rattle.machine_core.specs.Valid.{most_task_steps, change, changed, HasFewSignals}
+use Rattle.machine_core.proofs.NearLaws.{IsNear, near-done}
 use Rattle.machine_core.proofs.CurrentLaws.{current-done}
 use Rattle.machine_core.proofs.LookLaws.{looks_after, looks-done, to_come-after, to_come-step}
 
@@ -19,8 +23,16 @@ use Rattle.machine_core.proofs.LookLaws.{looks_after, looks-done, to_come-after,
 valid-steps : (d : Method) (m : Machine) (s : ℕ) → IsValidMachine program_serves d m → IsValidMachine program_serves d (record m { s = s })
 valid-steps d m s v = record { kernel = v.kernel; registers = v.registers; frames = v.frames; interrupts = v.interrupts; queue = v.queue; fits = v.fits; stands = v.stands }
 
+-- Beside that, the fields b are of the same kinds of objects as a, and fit them.
+pub record AreBeside (a b : Parts) : Type 0 where
+  pub kinds : b.kinds ≡ a.kinds
+  pub work : IsFitHand b.config b.kernel.hand
+  pub size : b.later.size ≡ b.config.defer_size
+  pub vectors : HasVectors b.frames
+  pub looks : All (λ l. IsShown (length b.kinds.objects) l.what) b.looks
+
 -- The fields b are what the next event makes of the fields a, but for the raw steps.
-module _ (a b : Parts) (k : IsKept a) (open_yet : a.t < most_task_steps) (whole : method_machine_of b ≡ changed (method_machine_of a)) (parts : AreParts b) where
+module _ (a b : Parts) (k : IsKept a) (open_yet : a.t < most_task_steps) (whole : method_machine_of b ≡ changed (method_machine_of a)) where
   abbrev m : Machine
   m = machine_of a
 
@@ -41,6 +53,9 @@ module _ (a b : Parts) (k : IsKept a) (open_yet : a.t < most_task_steps) (whole 
   fewer : events_left most_task_steps (machine_of b) < events_left most_task_steps m
   fewer = subst (λ (n : Machine). events_left most_task_steps n < events_left most_task_steps m) (sym e) (events_left-next program_serves a.method most_task_steps m k.valid open_yet)
 
+  near : IsNear a.kernel.state b.kernel.state
+  near = subst (λ (n : Machine). IsNear a.kernel.state n.kernel) (sym e) (near-done a.method (rule a.method m) m)
+
   same_steps : b.s ≡ a.s
   same_steps = ap (λ (n : Machine). n.s) e ∙ counts.s
 
@@ -55,27 +70,41 @@ module _ (a b : Parts) (k : IsKept a) (open_yet : a.t < most_task_steps) (whole 
   looks : b.looks ≡ looks_after (rule a.method m) m
   looks = ap (λ (n : Machine). n.looks) e ∙ looks-done program_serves a.method (rule a.method m) m
 
+  signals : HasFewSignals b.kernel.state (events_left most_task_steps (machine_of b))
+  signals =
+      let tick = k.signals.tick in
+      let timer = k.signals.timer in
+      let one = near.few.tick in
+      let other = near.few.timer in
+      record { tick = omega (arith, tick, one, fewer); timer = omega (arith, timer, other, fewer) }
+
   -- before the raw step is counted
-  pub kept-change : IsKept b
-  kept-change = record {
+  pub kept-change : AreBeside a b → IsKept b
+  kept-change beside = record {
     valid = valid;
-    parts = parts;
+    parts = record { kinds = near.kinds ∙ k.parts.kinds ∙ sym beside.kinds; work = beside.work; size = beside.size; vectors = beside.vectors; looks = beside.looks };
     current = current;
     within = task_steps;
     few = let l = k.few in omega (arith, l, fewer, same_steps);
+    signals = signals;
     to_come = rw (same_steps, looks) (to_come-after (rule a.method m) m k.to_come);
   }
 
   -- with the raw step
-  pub kept-step : raw (rule a.method m) ≡ 1 → IsKept (record b { s = b.s + 1 })
-  kept-step one = record {
+  pub kept-step : AreParts b → raw (rule a.method m) ≡ 1 → IsKept (record b { s = b.s + 1 })
+  kept-step parts one = record {
     valid = valid-steps b.method (machine_of b) (b.s + 1) valid;
-    parts = record { still = parts.still; kinds = parts.kinds; work = parts.work; size = parts.size; vectors = parts.vectors; looks = parts.looks };
+    parts = record { kinds = parts.kinds; work = parts.work; size = parts.size; vectors = parts.vectors; looks = parts.looks };
     current = current;
     within = task_steps;
     few = let l = k.few in omega (arith, l, fewer, same_steps);
+    signals = record { tick = signals.tick; timer = signals.timer };
     to_come = rw (same_steps, looks) (to_come-step a.method (rule a.method m) m (applies a.method m) one k.to_come);
   }
+
+-- room for one more signal of the tick task and of the timer task
+pub has-room : (a : Parts) → IsKept a → HasRoom a.kernel.state
+has-room a k = let tick = k.signals.tick in let timer = k.signals.timer in record { tick = omega (arith, tick); timer = omega (arith, timer) }
 
 -- The raw steps of an event.
 

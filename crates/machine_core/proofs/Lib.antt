@@ -1,6 +1,7 @@
 pub mod ApplicationLaws
 pub mod ActingLaws
-pub mod StillLaws
+pub mod SignalLaws
+pub mod NearLaws
 pub mod OutcomeLaws
 pub mod PrintLaws
 pub mod CurrentLaws
@@ -8,11 +9,14 @@ pub mod LookLaws
 pub mod KeptLaws
 pub mod MachineFacts
 pub mod TakeFacts
+pub mod UnitFacts
+pub mod InstructFacts
 pub mod StartFacts
 pub mod QuietExec
 pub mod ComingLaws
 pub mod TopLaws
 pub mod HandlerLaws
+pub mod HandlerUnits
 pub mod ChainLaws
 pub mod LookFacts
 pub mod FrameRules

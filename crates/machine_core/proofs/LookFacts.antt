@@ -10,11 +10,13 @@ use Rattle.inject_list.specs.declared.lists.Look.{Look}
 use Rattle.kern_model.specs.Call.{call_of}
 use Rattle.kern_model.specs.State.{Kernel, Object, kind_of, kinds_of}
 use Rattle.kern_model.specs.Effect.{Effect}
+use Rattle.kern_model.specs.Valid.{IsLinked}
 use Rattle.kern_model.specs.Micro.{Halves}
 use Rattle.served.specs.Served.{program_serves}
-use Rattle.kern_model.specs.Services.{half}
+use Rattle.kern_model.specs.Services.{effect, half}
+use Rattle.kern_model.proofs.Lemmas.{choice_by}
 use Rattle.kernel_calls.specs.KernelRecord.{halves_by, halves_in}
-use Rattle.kernel_calls.specs.Works.{WorkRecord}
+use Rattle.kernel_calls.specs.Works.{WorkRecord, unit_of}
 use Rattle.machine_model.specs.Answers.{Change}
 use Rattle.machine_model.specs.Looks.{chains, halves_of, look_at, looks, seen_in, without_look}
 use Rattle.machine_model.specs.Machine.{Machine}
@@ -26,6 +28,7 @@ use Rattle.machine_core.specs.MachineView.{Parts, machine_of, method_machine_of,
 use Rattle.machine_core.specs.MethodMachine.{next_machine}
 use Rattle.machine_core.specs.Valid.{change, changed, most_task_steps}
 use Rattle.machine_core.proofs.HandlerLaws.{without-half, without-whole}
+use Rattle.machine_core.proofs.HandlerUnits.{without-half_unit}
 use Rattle.machine_core.proofs.KeptLaws.{kept-change, next-same}
 use Rattle.machine_core.proofs.LookLaws.{look-of}
 use Rattle.due_looks.proofs.LookLaws.{without-keeps}
@@ -43,16 +46,24 @@ first-post : (later : List Queued) (q : Queued) → front later ≡ Some q → A
 first-post [] q e h = cc
 first-post (p ∷ later) q e h = let same : p ≡ q = cc in subst (λ (r : Queued). is_post r.service ≡ true) same (All-head (λ (r : Queued). is_post r.service ≡ true) p later h)
 
-take-posts : (b : Bool) (w : WorkRecord) (k : Kernel) (x size : ℕ) (later : List Queued) → b ≡ true → IsBegun (work_of b w) k x later → IsQueue size later → is_post w.request.service ≡ true
-take-posts true w k x size later e begun queue = first-post later (queued_in w) begun.first queue.posts
-take-posts false w k x size later e begun queue = absurd (false≢true e)
+take-posts : (u b : Bool) (w : WorkRecord) (k : Kernel) (x size : ℕ) (later : List Queued) → u ≡ false → b ≡ true → IsBegun (work_of u b w) k x later → IsQueue size later → is_post w.request.service ≡ true
+take-posts false true w k x size later u e begun queue = first-post later (queued_in w) begun.first queue.posts
+take-posts false false w k x size later u e begun queue = absurd (false≢true e)
+take-posts true b w k x size later u e begun queue = absurd (false≢true (sym u))
+
+unit-without : (x : ℕ) (k : Kernel) (i : ℕ) → IsLinked k → HasNoHandler (half (unit_of x k) k i)
+unfolding unit_of
+unit-without x k i v = without-half_unit x k i v
 
 without-hand : (o : Option WorkRecord) (a : Parts) → a.kernel.hand ≡ o → IsKept a → HasNoHandler (halves_by o a.kernel.state)
 without-hand None a e k = without-whole a.kernel.state k.valid.kernel
 without-hand (Some w) a e k =
     let stands : IsInHand program_serves a.config (step_of w) a.kernel.state a.current.0 a.later.posts = rw e at k.valid.stands in
-    without-half (call_of w.request w.caller w.interrupted w.compared) a.kernel.state w.done k.valid.kernel
-    (λ waits handler. false≢true (sym waits ∙ take-posts (w.caller == 63) w a.kernel.state a.current.0 a.config.defer_size a.later.posts (eq-eqb w.caller 63 handler) stands.begun k.valid.queue))
+    let call = call_of w.request w.caller w.interrupted w.compared in
+    choice_by (λ (f : Effect). HasNoHandler (half f a.kernel.state w.done)) w.unit (unit_of w.caller a.kernel.state) (effect program_serves call a.kernel.state)
+    (λ u. unit-without w.caller a.kernel.state w.done k.valid.kernel)
+    (λ u. without-half call a.kernel.state w.done k.valid.kernel
+    (λ waits handler. false≢true (sym waits ∙ take-posts w.unit (w.caller == 63) w a.kernel.state a.current.0 a.config.defer_size a.later.posts u (eq-eqb w.caller 63 handler) stands.begun k.valid.queue)))
 
 -- the handler stands in no list
 pub no-handler : (a : Parts) → IsKept a → HasNoHandler (halves_in a.kernel)
@@ -96,8 +107,7 @@ module _ (a : Parts) (l : Look) (k : IsKept a) (begun : a.begun ≡ true) (due :
     look-kept open_yet =
         kept-change a (record a { looks = rest }) k open_yet look-machine
         (record {
-          still = k.parts.still;
-          kinds = k.parts.kinds;
+          kinds = refl;
           work = k.parts.work;
           size = k.parts.size;
           vectors = k.parts.vectors;

@@ -1,16 +1,18 @@
 -- No service that is served answers with a table.
-use Rattle.std.specs.Prelude.{if◌then◌else◌, ◌==◌, ◌&&◌, ◌||◌, ◌-◌, ◌+◌, ◌^◌, nat_lt}
+use Rattle.std.specs.Prelude.{not, if◌then◌else◌, ◌==◌, ◌&&◌, ◌||◌, ◌-◌, ◌+◌, ◌^◌, nat_lt}
 use Rattle.std.proofs.Common.{◌≡◌, ℕ, zero, suc, List, [], ◌∷◌, length, refl, Bool, true, false, Option, Some, None}
 use Rattle.std.proofs.lemmas.Bool.{false≢true}
 use Rattle.kern_base.specs.declared.services.Service.{Service}
-use Rattle.kern_base.specs.declared.services.Service.TheVariants.{SemPost, QPost, FlagPost, TaskSemPost, TaskQPost, SemPend, QPend, FlagPend, TaskSemPend, TaskQPend, SchedLock, SchedUnlock, TimeGet, TimeDly, TimeDlyResume, SemPendAbort, QPendAbort, FlagPendAbort, TaskSemPendAbort, TaskQPendAbort, SemDel, QDel, FlagDel, TaskSuspend, TaskResume}
+use Rattle.kern_base.specs.declared.services.Service.TheVariants.{SemPost, QPost, FlagPost, TaskSemPost, TaskQPost, SemPend, QPend, FlagPend, TaskSemPend, TaskQPend, SchedLock, SchedUnlock, TimeGet, TimeDly, TimeDlyResume, SemPendAbort, QPendAbort, FlagPendAbort, TaskSemPendAbort, TaskQPendAbort, SemDel, QDel, FlagDel, TaskSuspend, TaskResume, TimeTick, RoundRobinYield, TmrStart, TmrStop, TmrRemainGet, TmrStateGet, TmrDel}
 use Rattle.kern_base.specs.declared.requests.Request.{Request}
 use Rattle.kern_base.specs.declared.errors.OsErr.{OsErr}
-use Rattle.kern_base.specs.declared.errors.OsErr.TheVariants.{SemOverflow, SchedLocked, SchedNotLocked, LockOverflow, PendAbortSelf, CallUnknown, Depth, TaskResumeSelf}
+use Rattle.kern_base.specs.declared.errors.OsErr.TheVariants.{SemOverflow, SchedLocked, SchedNotLocked, LockOverflow, PendAbortSelf, CallUnknown, Depth, TaskResumeSelf, RoundRobinDisabled, RoundRobinAlone}
 use Rattle.kern_base.specs.declared.outcomes.Waiting.{Waiting}
 use Rattle.kern_base.specs.declared.outcomes.Waiting.TheVariants.{No, Delay, Obj, TaskSem, TaskQ, Multi, Signal}
 use Rattle.kern_model.specs.Call.{Call}
-use Rattle.kern_model.specs.State.{Kernel, Content, Count, Messages, Bits, Held, Timed, list_at, object_at, task_at, with_content, with_task, nesting_limit, timer_task}
+use Rattle.kern_model.specs.RoundRobin.{is_alone, rotates, round_robin, round_robin_yield}
+use Rattle.kern_model.specs.Timers.{tmr_del, tmr_remain_get, tmr_start, tmr_state_get, tmr_stop, tmr_stop_in}
+use Rattle.kern_model.specs.State.{Kernel, Content, Count, Messages, Bits, Held, Timed, Timer, TimerState, Stopped, Running, Completed, prio_of, list_at, object_at, task_at, with_content, with_task, nesting_limit, timer_task}
 use Rattle.kern_model.specs.Effect.{Effect, Wait, chosen, refused, done, fine, waits_unless, blocks_on, waits_for}
 use Rattle.kern_model.specs.Checks.{argument, call_error, named_task}
 use Rattle.kern_model.specs.FlagBits.{ready_bits}
@@ -20,7 +22,7 @@ use Rattle.kern_model.specs.Queues.{q_pend, q_post, q_post_to, store_error, stor
 use Rattle.kern_model.specs.TaskObjects.{task_abort, task_abort_of, waits_for_queue, waits_for_semaphore, task_q_pend_on, task_q_post_to, task_sem_pend_on, task_sem_post_to, task_store}
 use Rattle.kern_model.specs.Semaphores.{sem_post_to, sem_post, sem_pend}
 use Rattle.kern_model.specs.Tasks.{resumes, sched_lock, sched_unlock, suspends, task_resume, task_suspend, unlocks}
-use Rattle.kern_model.specs.Time.{delay_of, delays, resumes_delayed, time_dly}
+use Rattle.kern_model.specs.Time.{delay_of, delays, resumes_delayed, signalled, signals_tick, signals_timer, time_dly}
 use Rattle.kern_model.specs.Waiters.{aborts, delete, deletes, pend_abort}
 use Rattle.served.specs.Served.{program_serves}
 use Rattle.kern_model.specs.Services.{effect, after_checks, perform}
@@ -201,6 +203,67 @@ plain-task_resume r x h k =
     let n = (task_at k y).suspended in
     choice Plain (y == x) (refused k TaskResumeSelf) (resumes n y h k) refl (plain-resumes n y h k)
 
+-- ticks and round robin
+
+plain-signalled : (w : Waiting) (x h : ℕ) (k : Kernel) → Plain (signalled w x h k)
+plain-signalled Signal x h k = refl
+plain-signalled _ x h k = refl
+
+plain-signals_timer : (h : ℕ) (k : Kernel) → Plain (signals_timer h k)
+plain-signals_timer h k =
+    let j : Kernel = record k { tick_calls = 0; timer_signals = k.timer_signals + 1 } in
+    let w = (task_at k timer_task).waiting in
+    choice Plain (nat_lt (k.tick_calls + 1) k.settings.tmr_div) (done (record k { tick_calls = k.tick_calls + 1 }) (fine 0)) (signalled w timer_task h j) refl (plain-signalled w timer_task h j)
+
+plain-yield : (x : ℕ) (k : Kernel) → Plain (round_robin_yield x k)
+plain-yield x k =
+    let p = prio_of k x in
+    let alone = if is_alone (list_at k.ready p) then refused k RoundRobinAlone else rotates x p k in
+    choice Plain (not (k.lock == 0)) (refused k SchedLocked) (if not k.settings.round_robin then refused k RoundRobinDisabled else alone) refl
+    (choice Plain (not k.settings.round_robin) (refused k RoundRobinDisabled) alone refl (choice Plain (is_alone (list_at k.ready p)) (refused k RoundRobinAlone) (rotates x p k) refl refl))
+
+-- timers
+
+plain-tmr_start : (c : Content) (r : Request) (k : Kernel) → Plain (tmr_start c r k)
+plain-tmr_start (Timed t) r k = refl
+plain-tmr_start (Count n) r k = refl
+plain-tmr_start (Messages limit ms) r k = refl
+plain-tmr_start (Bits bits) r k = refl
+plain-tmr_start (Held owner nesting) r k = refl
+
+plain-tmr_stop_in : (state : TimerState) (t : Timer) (o : ℕ) (k : Kernel) → Plain (tmr_stop_in state t o k)
+plain-tmr_stop_in Running t o k = refl
+plain-tmr_stop_in Stopped t o k = refl
+plain-tmr_stop_in Completed t o k = refl
+
+plain-tmr_stop : (c : Content) (r : Request) (k : Kernel) → Plain (tmr_stop c r k)
+plain-tmr_stop (Timed t) r k = plain-tmr_stop_in t.state t (argument r 0) k
+plain-tmr_stop (Count n) r k = refl
+plain-tmr_stop (Messages limit ms) r k = refl
+plain-tmr_stop (Bits bits) r k = refl
+plain-tmr_stop (Held owner nesting) r k = refl
+
+plain-tmr_remain_get : (c : Content) (r : Request) (k : Kernel) → Plain (tmr_remain_get c r k)
+plain-tmr_remain_get (Timed t) r k = refl
+plain-tmr_remain_get (Count n) r k = refl
+plain-tmr_remain_get (Messages limit ms) r k = refl
+plain-tmr_remain_get (Bits bits) r k = refl
+plain-tmr_remain_get (Held owner nesting) r k = refl
+
+plain-tmr_state_get : (c : Content) (k : Kernel) → Plain (tmr_state_get c k)
+plain-tmr_state_get (Timed t) k = refl
+plain-tmr_state_get (Count n) k = refl
+plain-tmr_state_get (Messages limit ms) k = refl
+plain-tmr_state_get (Bits bits) k = refl
+plain-tmr_state_get (Held owner nesting) k = refl
+
+plain-tmr_del : (c : Content) (r : Request) (k : Kernel) → Plain (tmr_del c r k)
+plain-tmr_del (Timed t) r k = refl
+plain-tmr_del (Count n) r k = refl
+plain-tmr_del (Messages limit ms) r k = refl
+plain-tmr_del (Bits bits) r k = refl
+plain-tmr_del (Held owner nesting) r k = refl
+
 -- each of them
 
 plain-perform : (s : Service) (call : Call) (k : Kernel) → program_serves s ≡ true → Plain (perform s call k)
@@ -229,6 +292,13 @@ plain-perform FlagDel call k e = plain-delete call.request call.compared k
 plain-perform TimeDlyResume call k e = let y = named_task call.request call.caller in plain-resume (task_at k y).waiting y call.compared k
 plain-perform TaskSuspend call k e = plain-task_suspend call.request call.caller k
 plain-perform TaskResume call k e = plain-task_resume call.request call.caller call.compared k
+plain-perform TimeTick call k e = let h = call.compared in plain-signals_timer h (round_robin call.interrupted (signals_tick h k).kernel).kernel
+plain-perform RoundRobinYield call k e = plain-yield call.caller k
+plain-perform TmrStart call k e = plain-tmr_start (object_at k (argument call.request 0)).content call.request k
+plain-perform TmrStop call k e = plain-tmr_stop (object_at k (argument call.request 0)).content call.request k
+plain-perform TmrRemainGet call k e = plain-tmr_remain_get (object_at k (argument call.request 0)).content call.request k
+plain-perform TmrStateGet call k e = plain-tmr_state_get (object_at k (argument call.request 0)).content k
+plain-perform TmrDel call k e = plain-tmr_del (object_at k (argument call.request 0)).content call.request k
 plain-perform _ call k e = absurd (false≢true e)
 
 plain-checked : (o : Option OsErr) (call : Call) (k : Kernel) → program_serves call.request.service ≡ true → Plain (after_checks o call k)

@@ -34,7 +34,7 @@ use Rattle.machine_laws.specs.Valid.{IsValidMachine}
 use Rattle.machine_laws.proofs.Lemmas.{valid-start_machine}
 use Rattle.machine_core.specs.MachineView.{Parts}
 use Rattle.machine_core.specs.MachineView.{machine_of, hand_of, IsKept, HasVectors}
-use Rattle.machine_core.specs.Valid.{IsStill, most_task_steps, most_events}
+use Rattle.machine_core.specs.Valid.{HasFewSignals, most_task_steps, most_events}
 use Rattle.machine_core.proofs.MachineFacts.{none_fit}
 use Rattle.machine_core.proofs.CurrentLaws.{pick-below}
 
@@ -136,14 +136,15 @@ kept-loaded image list a h words l e kinds size =
     let t : a.t ≡ 0 = ap (λ (m : Machine). m.t) e in
     let looks : a.looks ≡ list.looks = ap (λ (m : Machine). m.looks) e in
     let none : hand_of a.kernel.hand ≡ None = ap (λ (m : Machine). m.in_hand) e in
-    let still : IsStill (start image list).kernel = record { tick_signals = refl; timer_signals = refl; processing = refl } in
     let first = pick-below (start_state image) (valid-start_machine program_serves Direct image list h words l).kernel in
     let current : a.current.0 < 64 = subst (λ (m : Machine). m.current < 64) (sym e) first in
     let few : events_left most_task_steps (machine_of a) ≤ most_events = subst (λ (m : Machine). events_left most_task_steps m ≤ most_events) (sym e) (few-start image list h l) in
+    let tick : a.kernel.state.tick_signals ≡ 0 = ap (λ (m : Machine). m.kernel.tick_signals) e in
+    let timer : a.kernel.state.timer_signals ≡ 0 = ap (λ (m : Machine). m.kernel.timer_signals) e in
+    let signals : HasFewSignals a.kernel.state (events_left most_task_steps (machine_of a)) = record { tick = omega (arith, few, tick); timer = omega (arith, few, timer) } in
     record {
       valid = valid-loaded a.method image list (machine_of a) h words l e;
       parts = record {
-        still = subst (λ (m : Machine). IsStill m.kernel) (sym e) still;
         kinds = ap (λ (m : Machine). kinds_of m.kernel) e ∙ kinds-start image ∙ sym kinds;
         work = none_fit a.config a.kernel.hand none;
         size = size ∙ ap (λ (m : Machine). m.config.defer_size) (sym e);
@@ -153,6 +154,7 @@ kept-loaded image list a h words l e kinds size =
       current = current;
       within = omega (arith, t);
       few = omega (arith, few, s);
+      signals = signals;
       to_come = rw (s, looks) (all-to_come list.looks);
     }
 

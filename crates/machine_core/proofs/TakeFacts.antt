@@ -14,6 +14,7 @@ use Rattle.machine_core.proofs.MachineFacts.{is-last, not-last, outcome-is, take
 pub record LastOfTake (q : Queued) (old new : KernelRecord) (o : Outcome) : Type 0 where
   pub hand : WorkRecord
   pub held : old.hand ≡ Some hand
+  pub no_unit : hand.unit ≡ false
   pub takes : (hand.caller == 63) ≡ true
   pub queued : queued_in hand ≡ q
   pub last : hand.done + 1 ≡ cost (effect_of hand old.state) old.state
@@ -37,8 +38,9 @@ module _ (q : Queued) (old new : KernelRecord) (last : Bool) (o : Outcome) (i : 
       record {
         hand = got.0;
         held = got.1;
-        takes = got.2;
-        queued = got.3;
+        no_unit = got.2;
+        takes = got.3;
+        queued = got.4;
         last = p;
         outcome = outcome-is old new got.0 last o got.1 open_yet more done e;
         ends = (done got.0 got.1 p).2;

@@ -4,17 +4,20 @@ use Rattle.kern_base.specs.declared.services.Service.{Service}
 use Rattle.kern_base.specs.declared.outcomes.Answer.{Answer}
 use Rattle.kern_base.specs.declared.outcomes.Finished.{Finished}
 use Rattle.kern_base.specs.declared.outcomes.Outcome.{Outcome}
-use Rattle.kern_base.specs.declared.outcomes.Outcome.TheVariants.{Answered, Waits, Gone}
+use Rattle.kern_base.specs.declared.outcomes.Outcome.TheVariants.{Answered, Waits, Gone, Quiet}
+use Rattle.kern_base.specs.declared.outcomes.UnitEnd.TheVariants.{Fire}
 use Rattle.kern_base.specs.declared.requests.Request.{Request}
-use Rattle.kern_model.specs.State.{task_at, prio_of}
+use Rattle.app_image.specs.declared.settings.Config.{Config}
+use Rattle.kern_model.specs.State.{object_at, task_at, prio_of}
 use Rattle.served.specs.Served.{program_serves}
 use Rattle.kern_model.specs.Finish.{finished}
 use Rattle.rv32_exec.specs.Registers.{no_registers}
 use Rattle.kernel_calls.specs.KernelRecord.{KernelRecord, with_state}
 use Rattle.kernel_calls.specs.Works.{begun}
 use Rattle.machine_model.specs.Acts.{request_of}
+use Rattle.machine_model.specs.Steps.{after_fire, unit_line}
 use Rattle.machine_model.specs.declared.events.What.{What}
-use Rattle.machine_model.specs.declared.events.What.TheVariants.{Quiet, Wait, Gone as GoneLine}
+use Rattle.machine_model.specs.declared.events.What.TheVariants.{Quiet as NoLine, Wait, Gone as GoneLine}
 use Rattle.machine_model.specs.Answers.{with_answer, returned, task_id, entries}
 
 -- the request of x, as its registers have it
@@ -42,7 +45,7 @@ finished_kernel k x = finished_by (task_at k.state x).answered k x
 
 -- what is told of a result
 abbrev pub line_of : Option Finished → ℕ → What
-line_of None x = Quiet
+line_of None x = NoLine
 line_of (Some f) x = returned x f.service f.answer (entries (Some f))
 
 -- what is told of a task that reads its result
@@ -59,9 +62,19 @@ abbrev pub ended_line : ℕ → Service → Outcome → What
 ended_line x service (Answered a taken) = returned x service a (entries taken)
 ended_line x service Waits = Wait (task_id x) service
 ended_line x service Gone = GoneLine (task_id x)
-ended_line x service outcome = Quiet
+ended_line x service outcome = NoLine
 
 -- no table comes with the outcome
 abbrev pub HasNoTable : Outcome → Type 0
 HasNoTable (Answered a taken) = taken ≡ None
 HasNoTable outcome = Unit {0}
+
+-- the end of a unit: where a timer fired that has a callback, the registers of the timer task are those of its start
+abbrev pub unit_ended_kernel : Config → Outcome → KernelRecord → KernelRecord
+unit_ended_kernel config (Quiet (Fire o)) k = record k { registers = after_fire config o.0 (object_at k.state o.0).content k.registers }
+unit_ended_kernel config outcome k = k
+
+-- what is told of it
+abbrev pub unit_ended_line : Outcome → What
+unit_ended_line (Quiet end) = unit_line end
+unit_ended_line outcome = NoLine

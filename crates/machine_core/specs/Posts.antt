@@ -1,8 +1,9 @@
 -- What a post of interrupt code comes to, by where it goes.
-use Rattle.std.specs.Prelude.{ℕ, List, Option, Some, None}
+use Rattle.std.specs.Prelude.{ℕ, ◌-◌, ◌^◌, Bool, ◌&&◌, nat_lt, List, Option, Some, None}
 use Rattle.kern_base.specs.declared.services.Service.{Service}
 use Rattle.kern_base.specs.declared.outcomes.Answer.{Answer}
 use Rattle.kern_base.specs.declared.errors.OsErr.TheVariants.{InterruptQueueFull}
+use Rattle.kern_model.specs.State.{Kernel}
 use Rattle.kern_model.specs.Effect.{answer, fine}
 use Rattle.served.specs.Served.{program_serves}
 use Rattle.kern_model.specs.Services.{posted}
@@ -25,3 +26,7 @@ joined None q = (answer InterruptQueueFull 0, q)
 -- into the queue, with this priority
 abbrev pub post_later : ℕ → Service → List ℕ → QueueRecord → Answer × QueueRecord
 post_later p s args q = joined (queued q.size (record { service = s; args = args; saved = p }) q.posts) q
+
+-- whether one more signal of the tick task and of the timer task can be counted
+abbrev pub has_room : Kernel → Bool
+has_room k = nat_lt k.tick_signals (2 ^ 64 - 1) && nat_lt k.timer_signals (2 ^ 64 - 1)

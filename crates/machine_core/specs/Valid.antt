@@ -1,5 +1,5 @@
--- What the machine keeps true of itself between two events, while no service signals the internal tasks.
-use Rattle.std.specs.Prelude.{◌≡◌, ℕ, ◌^◌, Bool, true, false}
+-- What a machine may do in all, and its change by the next event.
+use Rattle.std.specs.Prelude.{◌≤◌, ℕ, ◌+◌, ◌^◌, Bool, true, false}
 use Rattle.kern_base.specs.declared.kinds.Method.{Method}
 use Rattle.kern_base.specs.declared.kinds.Method.TheVariants.{Direct, Deferred}
 use Rattle.kern_model.specs.State.{Kernel}
@@ -22,11 +22,10 @@ most_task_steps = 1000000
 abbrev pub most_events : ℕ
 most_events = 2 ^ 41
 
--- the tick task and the timer task have nothing to do
-pub record IsStill (k : Kernel) : Type 0 where
-  pub tick_signals : k.tick_signals ≡ 0
-  pub timer_signals : k.timer_signals ≡ 0
-  pub processing : k.processing ≡ false
+-- so many signals, with the events that are still to come, are at most that
+pub record HasFewSignals (k : Kernel) (events : ℕ) : Type 0 where
+  pub tick : k.tick_signals + events ≤ most_events
+  pub timer : k.timer_signals + events ≤ most_events
 
 -- what happens next by this method, but for the raw steps
 abbrev pub change : Method → Machine → Change

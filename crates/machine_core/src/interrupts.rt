@@ -10,6 +10,7 @@ ghost use Rattle.kern_base.specs.declared.kinds.Method.TheVariants.{Direct};
 ghost use Rattle.served.specs.Served.{program_serves};
 ghost use Rattle.isr_nesting.specs.Nest.{waiting_at, without_number};
 ghost use Rattle.machine_model.specs.Machine.{Machine as State};
+ghost use Rattle.kernel_records.specs.Ticks.{HasRoom};
 ghost use Rattle.machine_core.specs.FrameCalls.{task_below, top_of};
 ghost use Rattle.machine_core.specs.IsrStep.{HasParts, IsStepBy};
 ghost use Rattle.machine_core.specs.Valid.{most_task_steps, change, changed};
@@ -75,6 +76,7 @@ fn frame_step_by<L: Links>(
     requires room { (top_of frames.old.frames).used < 2 ^ 32 - 1 }
     requires low { (top_of frames.old.frames).vector < 32 }
     requires free { method ≡ Direct → kernel.old.hand ≡ None }
+    requires signals { HasRoom kernel.old.state }
     requires blank { line.old ≡ What.Quiet }
     ensures rule { (m : State) → HasParts m program.now kinds.now prio.0 frames.old ram.old later.old → kernel.old.state ≡ m.kernel
         → IsStepBy method m line.new frames.old frames.new ram.new later.new kernel.old kernel.new }

@@ -1,5 +1,5 @@
-//! The machine: tasks, the kernel, memory and interrupt code, which posts at once or through a queue, and what
-//! happens next. One call of [`Machine::step`] is one event.
+//! The machine: tasks, the units of internal tasks, callbacks of timers, the kernel, memory and interrupt code, which posts at
+//! once or through a queue, and what happens next. One call of [`Machine::step`] is one event.
 #![tactic(auto)]
 
 mod answers;
@@ -10,6 +10,7 @@ mod machine;
 mod posts;
 mod takes;
 mod tasks;
+mod units;
 
 pub use frame_steps::{isr_step, isr_step_into};
 pub use machine::Machine;

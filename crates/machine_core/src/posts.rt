@@ -1,7 +1,7 @@
 // Where the posts of interrupt code go: into the kernel at once, or into the queue of posts.
 
-ghost use Rattle.std.specs.Prelude.{◌≡◌, true, is_none};
-ghost use Rattle.machine_core.specs.Posts.{post_at_once, post_later};
+ghost use Rattle.std.specs.Prelude.{◌≡◌, ◌&&◌, true, is_none};
+ghost use Rattle.machine_core.specs.Posts.{has_room, post_at_once, post_later};
 
 use deferred_queue::DeferredQueue;
 use kern_base::{Answer, OsErr, Post, Prio};
@@ -17,7 +17,7 @@ pub(crate) trait Posts {
     // What a post comes to while a task of this priority is current: its answer, and what it leaves.
     ghost posted: { ℕ → Service → List ℕ → Self → Answer × Self };
 
-    // Whether a post may be made now: into the kernel, where nothing is in hand.
+    // Whether a post may be made now: into the kernel, where nothing is in hand, and there is room to count one more signal.
     ghost may_post: { Self → Bool };
 
     // A post that passed the static checks, while a task of this priority is current.
@@ -30,7 +30,7 @@ pub(crate) trait Posts {
 impl<L: Links> Posts for Kernel<L> {
     ghost posted = { post_at_once };
 
-    ghost may_post = { λ k. is_none k.hand };
+    ghost may_post = { λ k. is_none k.hand && has_room k.state };
 
     // The post acts at once, and whole.
     fn post(&mut self, post: Post, prio: Prio) -> Answer {

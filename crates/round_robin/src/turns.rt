@@ -1,21 +1,20 @@
 // What round robin comes to. Nothing changes yet.
 
-ghost use Rattle.std.specs.Prelude.{◌≡◌, ◌≢◌, ◌<◌, ◌==◌, ℕ, Bool, not, IfSome};
-ghost use Rattle.kern_model.specs.State.{Kernel, list_at, prio_of};
-ghost use Rattle.kern_model.specs.RoundRobin.{round_robin, round_robin_yield};
+ghost use Rattle.std.specs.Prelude.{◌≡◌, ◌<◌, ℕ, List, IfSome, Some, insert, slice_get};
 ghost use Rattle.links.specs.Chain.{list_at as chain_at};
-ghost use Rattle.round_robin.specs.Turns.{IsFront, IsShared, IsTurnOf, HasTurn, turned, yielded};
+ghost use Rattle.micro_steps.specs.Blocks.{place_at};
+ghost use Rattle.round_robin.specs.Turns.{RoundRobinIsTurn, front, second_task, turn_of, yield_decision};
 
-use kern_base::{OsErr, Prio, TaskId};
+use decisions::{refuse, success};
+use kern_base::{Decision, OsErr, Prio, TaskId};
 use links::Links;
 use ready_list::ReadyList;
 
-/// What round robin sees of a ready list: its first task, None where it is empty, and whether another
-/// one stands behind it.
+/// What round robin sees of a ready list: its first two tasks, None where there is none.
 #[derive(Clone, Copy, Debug, PartialEq, Eq)]
 pub struct Front {
     pub first: Option<TaskId>,
-    pub more: bool,
+    pub second: Option<TaskId>,
 }
 
 /// What a tick comes to for the ready tasks of one priority.
@@ -25,8 +24,8 @@ pub enum Turn {
     Stays,
     /// The quantum of this task, the first, falls by one unless it is 0.
     Spends(TaskId),
-    /// The same, and then this task goes to the tail, and the new first one has its full quantum.
-    Rotates(TaskId),
+    /// The same, and then this task goes to the tail, and the second one, the new first, has its full quantum.
+    Rotates(TaskId, TaskId),
 }
 
 // The number of the idle task.
@@ -35,58 +34,91 @@ const IDLE: u8 = 62;
 /// The front of a priority's list.
 pub fn front_of<L: Links>(ready: &ReadyList<L>, prio: Prio) -> Front
     requires number { prio.0 < 64 }
-    requires whole { ready.now.forward ≡ ready.now.back }
-    ensures front { IsFront result (chain_at ready.now.forward prio.0) }
-    ensures low { IfSome result.first (λ task. task.0 < 64) }
+    ensures front { result ≡ front (chain_at ready.now.forward prio.0) }
+    ensures low { IfSome result.first (λ task. task.0 < 64) × IfSome result.second (λ task. task.0 < 64) }
 {
-    ready.consistent();
     let first = ready.head(prio);
-    let more = match first {
-        // Another one stands behind it where it is not the last.
-        Some(task) => ready.join_after(prio, true) != task.0 as u16,
-        None => false,
+    let second = match first {
+        Some(task) => behind(ready, prio, task),
+        None => None,
     };
-    Front { first, more }
+    Front { first, second }
 }
 
-/// What a tick comes to at this front, where these are the quanta of the tasks by number, the scheduler
-/// is locked or not, and round robin is on or not.
-pub fn decide_tick(front: Front, left: &[u32; 64], locked: bool, on: bool) -> Turn
-    requires { IfSome front.first (λ task. task.0 < 64) }
-    ensures task { IsTurnOf result front }
+// The task behind the first one of a priority's list.
+fn behind<L: Links>(ready: &ReadyList<L>, prio: Prio, task: TaskId) -> Option<TaskId>
+    requires numbers { (task.0 < 64) × (prio.0 < 64) }
+    requires first { slice_get (chain_at ready.now.forward prio.0) 0 ≡ Some task.0 }
+    ensures second { result ≡ second_task (chain_at ready.now.forward prio.0) }
+    ensures low { IfSome result (λ task. task.0 < 64) }
+{
+    ready.consistent();
+    let node = ready.successor(task.0 as u16);
+    if node < 64 {
+        Some(TaskId(node as u8))
+    } else {
+        None
+    }
+}
 
-    // It is what round robin does, in every kernel with this front and these quanta.
-    ensures row { (k : Kernel) (prio : ℕ) → IsFront front (list_at k.ready prio) → HasTurn k front left.now locked on →
-        round_robin prio k ≡ turned result prio k }
+impl Front {
+    /// The front once a task joined the list, at the tail or else at the head.
+    pub fn joined(&self, task: TaskId, tail: bool) -> Front
+        ensures { (xs : List ℕ) → self.now ≡ front xs → result ≡ front (insert xs (place_at tail xs) task.0) }
+    {
+        if !tail {
+            return Front {
+                first: Some(task),
+                second: self.first,
+            };
+        }
+        match (self.first, self.second) {
+            (None, _) => Front {
+                first: Some(task),
+                second: None,
+            },
+            (first, None) => Front {
+                first,
+                second: Some(task),
+            },
+            _ => *self,
+        }
+    }
+}
+
+/// What a tick comes to at this front, where the first task has this quantum, the scheduler is locked or not, and round robin is on
+/// or not.
+pub fn decide_tick(front: &Front, quantum: u32, locked: bool, on: bool) -> Turn
+    ensures { result ≡ turn_of front.now quantum locked on }
 {
     let Some(task) = front.first else {
         return Turn::Stays;
     };
     if !on || locked || task.0 == IDLE {
-        Turn::Stays
-    } else if front.more && left[task.0 as usize] <= 1 {
-        Turn::Rotates(task)
-    } else {
-        Turn::Spends(task)
+        return Turn::Stays;
+    }
+    match front.second {
+        Some(next) if quantum <= 1 => Turn::Rotates(task, next),
+        _ => Turn::Spends(task),
     }
 }
 
-/// What `OSSchedRoundRobinYield` comes to, whose checks have passed and whose caller is the first task of
-/// its priority: the error with which it is refused, and None where the caller goes to the tail.
-pub fn decide_yield(more: bool, locked: bool, on: bool) -> Option<OsErr>
-    ensures refused { IfSome result (λ err. err ≢ OsErr.NoError) }
-
-    // It is what the service does, in every kernel where others are ready or not.
-    ensures row { (k : Kernel) (caller : ℕ) → IsShared more (list_at k.ready (prio_of k caller)) → locked ≡ not (k.lock == 0) → on ≡ k.settings.round_robin →
-        round_robin_yield caller k ≡ yielded result caller k }
+/// What `OSSchedRoundRobinYield` comes to, whose checks have passed: of its caller, behind which this task stands in the ready list.
+pub fn decide_yield(second: Option<TaskId>, locked: bool, on: bool) -> Decision
+    ensures { result ≡ yield_decision second locked on }
 {
     if locked {
-        Some(OsErr::SchedLocked)
+        refuse(OsErr::SchedLocked)
     } else if !on {
-        Some(OsErr::RoundRobinDisabled)
-    } else if !more {
-        Some(OsErr::RoundRobinAlone)
+        refuse(OsErr::RoundRobinDisabled)
+    } else if second.is_none() {
+        refuse(OsErr::RoundRobinAlone)
     } else {
-        None
+        Decision::Done(success(0))
     }
 }
+
+/// Round robin at a tick is the turn at the front of the ready list that it looks at: a law, which does nothing.
+pub fn round_robin_is_a_turn()
+    ensures { RoundRobinIsTurn }
+{}

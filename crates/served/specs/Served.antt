@@ -1,7 +1,7 @@
 -- The services that this program serves: any other counts as an unknown number.
 use Rattle.std.specs.Prelude.{Bool, true, false}
 use Rattle.kern_base.specs.declared.services.Service.{Service}
-use Rattle.kern_base.specs.declared.services.Service.TheVariants.{SemPost, QPost, FlagPost, TaskSemPost, TaskQPost, SemPend, QPend, FlagPend, TaskSemPend, TaskQPend, SchedLock, SchedUnlock, TimeGet, TimeDly, TimeDlyResume, SemPendAbort, QPendAbort, FlagPendAbort, TaskSemPendAbort, TaskQPendAbort, SemDel, QDel, FlagDel, TaskSuspend, TaskResume}
+use Rattle.kern_base.specs.declared.services.Service.TheVariants.{SemPost, QPost, FlagPost, TaskSemPost, TaskQPost, SemPend, QPend, FlagPend, TaskSemPend, TaskQPend, SchedLock, SchedUnlock, TimeGet, TimeDly, TimeDlyResume, SemPendAbort, QPendAbort, FlagPendAbort, TaskSemPendAbort, TaskQPendAbort, SemDel, QDel, FlagDel, TaskSuspend, TaskResume, TimeTick, RoundRobinYield, TmrStart, TmrStop, TmrRemainGet, TmrStateGet, TmrDel}
 
 abbrev pub program_serves : Service → Bool
 program_serves SemPost = true
@@ -29,4 +29,11 @@ program_serves QDel = true
 program_serves FlagDel = true
 program_serves TaskSuspend = true
 program_serves TaskResume = true
+program_serves TimeTick = true
+program_serves RoundRobinYield = true
+program_serves TmrStart = true
+program_serves TmrStop = true
+program_serves TmrRemainGet = true
+program_serves TmrStateGet = true
+program_serves TmrDel = true
 program_serves _ = false

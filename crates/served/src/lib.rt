@@ -37,5 +37,12 @@ pub fn is_served(service: Service) -> bool
             | Service::FlagDel
             | Service::TaskSuspend
             | Service::TaskResume
+            | Service::TimeTick
+            | Service::RoundRobinYield
+            | Service::TmrStart
+            | Service::TmrStop
+            | Service::TmrRemainGet
+            | Service::TmrStateGet
+            | Service::TmrDel
     )
 }

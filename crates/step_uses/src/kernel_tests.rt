@@ -95,9 +95,9 @@ fn posts<L: Links>(rt: &impl Abort, kernel: &mut Kernel<L>) {
         (Service::SemPost, [1, 2, 0, 0], OsErr::NoError, 9),
         (Service::SemPost, [1, 1, 0, 0], OsErr::OptionInvalid, 0),
         (Service::SemPost, [2, 0, 0, 0], OsErr::ObjectType, 0),
-        (Service::TimeTick, [0, 0, 0, 0], OsErr::CallUnknown, 0),
+        (Service::TimeTick, [0, 0, 0, 0], OsErr::NoError, 0),
     ] {
-        assert!(rt; kernel.is_free());
+        assert!(rt; kernel.is_free() && kernel.has_room());
         let answer = kernel.post_now(Post { service, args }, Prio(10));
         assert_eq!(rt; answer.err, err);
         assert_eq!(rt; answer.value, value);
@@ -125,7 +125,7 @@ fn made<L: Links>(rt: &impl Abort, kernel: &mut Kernel<L>, rows: &[Row], outcome
 fn begin<L: Links>(rt: &impl Abort, kernel: &mut Kernel<L>, task: TaskId, request: &Request)
     requires { task.0 < 60 }
 {
-    assert!(rt; kernel.is_free() && may_call(kernel, task));
+    assert!(rt; kernel.is_free() && kernel.has_room() && may_call(kernel, task));
     kernel.begin(task, request, Prio(10), Prio(10));
 }
 
@@ -177,7 +177,7 @@ fn steps<L: Links>(rt: &impl Abort, kernel: &mut Kernel<L>) {
         service: Service::SemPost,
         args: [0; 4],
     };
-    assert!(rt; kernel.is_free());
+    assert!(rt; kernel.is_free() && kernel.has_room());
     kernel.begin_take(post, Prio(20), Prio(20));
     made(rt, kernel, &head, fine(0));
     assert!(rt; kernel.is_free());
@@ -220,6 +220,44 @@ fn half_made_lists_of_calls(rt: HostRuntime) -> Result<(), Fail> {
     Ok(())
 }
 
+// A task yields: it leaves its list and joins its tail. A tick that the handler takes after it interrupted this priority readies the
+// tick task, which is in another list, and spends of the first task's quantum.
+fn turns<L: Links>(rt: &impl Abort, kernel: &mut Kernel<L>) {
+    let yields = [
+        after(&[0, 1, 2], &[0, 1, 2], &[], &[]),
+        after(&[1, 2], &[0, 1, 2], &[], &[]),
+        after(&[1, 2], &[1, 2], &[], &[]),
+        after(&[1, 2, 0], &[1, 2], &[], &[]),
+        after(&[1, 2, 0], &[1, 2, 0], &[], &[]),
+        after(&[1, 2, 0], &[1, 2, 0], &[], &[]),
+        after(&[1, 2, 0], &[1, 2, 0], &[], &[]),
+    ];
+    begin(rt, kernel, TaskId(0), &call(Service::RoundRobinYield, 0));
+    made(rt, kernel, &yields, fine(0));
+    let tick = [after(&[1, 2, 0], &[1, 2, 0], &[], &[]); 5];
+    let post = Post {
+        service: Service::TimeTick,
+        args: [0; 4],
+    };
+    assert!(rt; kernel.is_free() && kernel.has_room());
+    kernel.begin_take(post, Prio(10), Prio(10));
+    made(rt, kernel, &tick, fine(0));
+    assert!(rt; kernel.is_free());
+    assert_eq!(rt; kernel.pick(), TaskId(60));
+}
+
+#[test]
+fn half_made_lists_of_turns(rt: HostRuntime) -> Result<(), Fail> {
+    let alloc = rt.alloc();
+    let mut kernel = kernel(
+        alloc,
+        IndexLinks::new(alloc, 128)?,
+        IndexLinks::new(alloc, 576)?,
+    )?;
+    turns(&rt, &mut kernel);
+    Ok(())
+}
+
 // Makes the step in hand, of so many micro-steps.
 fn whole<L: Links>(rt: &impl Abort, kernel: &mut Kernel<L>, count: u32) {
     for _ in 0..count {
@@ -248,7 +286,7 @@ fn waits<L: Links>(rt: &impl Abort, kernel: &mut Kernel<L>) {
         (Service::FlagPost, [3, 4, 0, 0], 1, 4, 0),
         (Service::TaskSemPost, [2, 0, 0, 0], 2, 0, 0),
     ] {
-        assert!(rt; kernel.is_free());
+        assert!(rt; kernel.is_free() && kernel.has_room());
         let answer = kernel.post_now(Post { service, args }, Prio(10));
         assert_eq!(rt; answer.err, OsErr::NoError);
         let tcb = kernel.tcb(TaskId(task));

@@ -51,6 +51,14 @@ numbers-without xs n a = record {
   ];
 }
 
+-- there are at most 64
+pub numbers-few : (xs : List ℕ) → AreNumbers xs → length xs ≤ 64
+numbers-few xs a =
+    length-le_by_counts 64 xs a.once (λ x h. zero-or (count_of x xs) (λ some. let l = a.low x some in absurd (omega arith)))
+  where
+    zero-or : (k : ℕ) → (0 < k → k ≡ 0) → k ≡ 0
+    zero-or k f = elim (eqb_tells k 0) [ inl e ↦ e.1 | inr e ↦ f (omega (arith, e.1)) ]
+
 -- there is room for one more
 pub numbers-room : (xs : List ℕ) (n : ℕ) → AreNumbers xs → n < 64 → count_of n xs ≡ 0 → length xs < 64
 numbers-room xs n a low fresh =

@@ -3,4 +3,4 @@ pub mod Chained
 pub mod Filters
 pub mod Slots
 pub mod Wheel
-pub mod Rows
+pub mod Firing

@@ -17,7 +17,7 @@ use Rattle.tick_timers.specs.Matches.{pairs, slots_in, slot_at, with_remainder}
 use Rattle.tick_timers.specs.WheelView.{count_or_zero, match_in, matches_in, wheel_of, IsWheel}
 use Rattle.tick_timers.specs.declared.wheels.Match.{Match}
 use Rattle.tick_timers.specs.declared.wheels.Wheel.TheInside.{Inside}
-use Rattle.tick_timers.proofs.Given.{count-same, count-other, numbers-push, numbers-without, numbers-room, count-matches, length-matches, matches-set, matches-push, matches-without, slot-other}
+use Rattle.tick_timers.proofs.Given.{count-same, count-other, numbers-push, numbers-few, numbers-without, numbers-room, count-matches, length-matches, matches-set, matches-push, matches-without, slot-other}
 use Rattle.tick_timers.proofs.Filters.{filter-filter, unmatched-none}
 use Rattle.tick_timers.proofs.Slots.{slots-count}
 
@@ -206,5 +206,12 @@ number-low a w r i ms d is h =
     let long : length (pairs ms) ≡ length ms = length-map ms (λ (m : Match). (m.number, m.at)) in
     subst (λ (m : ℕ × ℕ). m.0 < 64) (get_or-map (λ (m : Match). (m.number, m.at)) ms i d (0, 0) h) (all i (0, 0) (omega arith))
 
-pub matched-once : (a : Inside) → IsWheel a → (x : ℕ) → count_of x (matched (wheel_of a)) ≤ 1
-matched-once a w x = omega (arith, count-matches a.counts a.given x, w.numbers.once x)
+-- no slot has more than 64 matches
+pub slot-few : (a : Inside) → IsWheel a → (r : ℕ) (ms : List Match) → pairs ms ≡ with_remainder r (wheel_of a) → length ms ≤ 64
+slot-few a w r ms is =
+    let long : length (pairs ms) ≡ length ms = length-map ms (λ (m : Match). (m.number, m.at)) in
+    let same : length (pairs ms) ≡ length (with_remainder r (wheel_of a)) = ap (λ (xs : List (ℕ × ℕ)). length xs) is in
+    let few = length-filter r (wheel_of a) in
+    let all = length-matches a.counts a.given in
+    let given = numbers-few a.given w.numbers in
+    omega arith

@@ -4,5 +4,5 @@ pub mod WheelView
 pub mod TickRecord
 pub mod Delays
 pub mod TimerRecord
+pub mod TimerCalls
 pub mod TimerSeen
-pub mod TimerView

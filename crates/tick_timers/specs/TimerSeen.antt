@@ -1,8 +1,8 @@
 -- What a timer's fields mean.
 use Rattle.kern_model.specs.State as state
-use Rattle.tick_timers.specs.declared.timer_table.Timer.{Timer}
-use Rattle.tick_timers.specs.declared.timer_table.TimerState.{TimerState}
-use Rattle.tick_timers.specs.declared.timer_table.TimerState.TheVariants.{Stopped, Running, Completed}
+use Rattle.tick_timers.specs.declared.timers.Timer.{Timer}
+use Rattle.tick_timers.specs.declared.timers.TimerState.{TimerState}
+use Rattle.tick_timers.specs.declared.timers.TimerState.TheVariants.{Stopped, Running, Completed}
 
 abbrev pub state_seen : TimerState → state.TimerState
 state_seen Stopped = state.Stopped

@@ -1,6 +1,6 @@
 // The tick counter, and the tasks that wait for a tick.
 
-ghost use Rattle.std.specs.Prelude.{◌≡◌, ◌<◌, ◌≤◌, ◌+◌, ◌%◌, ◌^◌, [], ◌∷◌, ◌++◌, drop, length, slice_get, MatchOption, Some};
+ghost use Rattle.std.specs.Prelude.{◌≡◌, ◌<◌, ◌+◌, ◌%◌, ◌^◌, [], ◌∷◌, ◌++◌};
 ghost use Rattle.kern_model.specs.Effect.{unmatched};
 ghost use Rattle.kern_model.specs.Time.{delay_of, due};
 ghost use Rattle.tick_timers.specs.Delays.{delay_decision, is_delayed, resume_decision};
@@ -8,6 +8,7 @@ ghost use Rattle.tick_timers.specs.Matches.{pairs, with_remainder, IsUnmatched};
 
 use crate::Match;
 use crate::wheels::Wheel;
+use arrayvec::ArrayVec;
 use decisions::refuse;
 use kern_base::{Decision, OsErr, Request, TaskId, Waiting, Who};
 use std::marker::Model;
@@ -116,28 +117,12 @@ impl Ticks {
         self.ticks = self.ticks.wrapping_add(1);
     }
 
-    /// Takes the first match that is due now, in the order in which they were given, and tells its task.
-    /// None exactly where none is due, and then nothing changes.
-    pub fn fired(&mut self) -> Option<TaskId>
-        ensures counter { self.new.ticks ≡ self.old.ticks }
-        ensures taken { MatchOption result
-            ((due self.old.ticks self.old.matches ≡ []) × (self.new.matches ≡ self.old.matches))
-            (λ task. (task.0 < 64) × (slice_get (due self.old.ticks self.old.matches) 0 ≡ Some task.0) × (self.new.matches ≡ unmatched task.0 self.old.matches)) }
-        ensures left { due self.old.ticks self.new.matches ≡ drop 1 (due self.old.ticks self.old.matches) }
+    /// The tasks whose match is the next tick, in the order in which they got it.
+    pub fn due_next(&self, tasks: &mut ArrayVec<u8, 64>)
+        requires { tasks.old.items ≡ [] }
+        ensures { tasks.new.items ≡ due ((self.now.ticks + 1) % 2 ^ 32) self.now.matches }
     {
-        let number = self.wheel.take_due(self.ticks)?;
-        Some(TaskId(number))
-    }
-
-    /// The k-th, from 0, of the tasks whose match is the next tick, in the order in which they got it.
-    /// None exactly where there are at most k.
-    pub fn next_due(&self, k: u8) -> Option<TaskId>
-        ensures { MatchOption result
-            (length (due ((self.now.ticks + 1) % 2 ^ 32) self.now.matches) ≤ k)
-            (λ task. (task.0 < 64) × (slice_get (due ((self.now.ticks + 1) % 2 ^ 32) self.now.matches) k ≡ Some task.0)) }
-    {
-        let number = self.wheel.nth_due(self.ticks.wrapping_add(1), k)?;
-        Some(TaskId(number))
+        self.wheel.due(self.ticks.wrapping_add(1), tasks);
     }
 
     /// The matches whose tick has this remainder modulo 64, as they are kept. The numbers are those of tasks.

@@ -1,19 +1,25 @@
 // The lists of the wheels, and timers that are started, stopped and fire.
 
-use crate::{Match, Ticks, Timers, decide_resume, is_delayed};
-use app_image::{check, read_image};
+ghost use Rattle.std.specs.Prelude.{◌≡◌, ◌<◌, true};
+ghost use Rattle.tick_timers.specs.TimerCalls.{is_timer_call};
+
+use crate::{Match, Ticks, Timer, Timers, decide_resume, is_delayed};
+use arrayvec::ArrayVec;
 use decisions::refuse;
 use kern_base::{Decision, ObjId, OsErr, Request, Service, TaskId, Waiting, Who};
 use std::process::Abort;
-use std::test::Fail;
 
-// Goes on to a tick, and tells which tasks fire there.
+// Goes on to a tick, whose tasks are these, and which have no match then.
 fn fires_at(rt: &impl Abort, ticks: &mut Ticks, tasks: &[u8]) {
+    let mut due = ArrayVec::new();
+    ticks.due_next(&mut due);
+    assert_eq!(rt; due.as_slice(), tasks);
     ticks.tick();
     for task in tasks {
-        assert_eq!(rt; ticks.fired(), Some(TaskId(*task)));
+        if *task < 64 {
+            ticks.remove(TaskId(*task));
+        }
     }
-    assert_eq!(rt; ticks.fired(), None);
 }
 
 #[test]
@@ -34,11 +40,6 @@ fn matches_of_one_remainder_share_a_list(rt: HostRuntime) {
     for _ in 0..4 {
         fires_at(&rt, &mut ticks, &[]);
     }
-    assert_eq!(rt;
-        (ticks.next_due(0), ticks.next_due(1)),
-        (Some(TaskId(7)), Some(TaskId(1)))
-    );
-    assert_eq!(rt; ticks.next_due(2), None);
     fires_at(&rt, &mut ticks, &[7, 1]);
     for _ in 6..69 {
         fires_at(&rt, &mut ticks, &[]);
@@ -93,55 +94,85 @@ fn delays_are_decided(rt: HostRuntime) {
     }
 }
 
-// Version 2: one code word that loops, task `a`, a one-shot timer `once` of 2 counts, and a periodic timer `again` of 3 and then 4
-// counts with a callback at 0.
-const IMAGE: &[u8] = b"UC3I\x02\0\0\0\x01\0\0\0\0\0\0\0\x01\0\x02\0\0\0\0\0\
-\0\x01\0\0\x10\0\0\0@\0\0\0\x0a\0\0\0\x01\0\0\0\x0a\0\0\0\x01\0\0\0>\0\0\0\0\0\x14\0\0\0\0\0\
-a\0\0\0\0\0\0\0\0\0\0\0\0\0\0\0\0\0\0\0\0\0\x14\0\x0a\0\0\0\0\0\0\0\0\0\0\0\
-once\0\0\0\0\0\0\0\0\0\0\0\0\x05\0\0\0\x02\0\0\0\0\0\0\0\xff\xff\xff\xff\0\0\0\0\
-again\0\0\0\0\0\0\0\0\0\0\0\x06\0\0\0\x03\0\0\0\x04\0\0\0\0\0\0\07\0\0\0\
-o\0\0\0";
+// What a call on the timer of this object comes to, made at once where it succeeds: its error and its value.
+fn call(timers: &mut Timers, obj: u8, timer: &mut Timer, service: Service) -> Option<(OsErr, u32)>
+    requires number { obj < 64 }
+    requires call { is_timer_call service ≡ true }
+{
+    let Decision::Done(answer) = timers.decide(ObjId(obj), timer, service) else {
+        return None;
+    };
+    if answer.err == OsErr::NoError {
+        timers.apply(ObjId(obj), timer, service);
+    }
+    Some((answer.err, answer.value))
+}
 
+fn fine(value: u32) -> Option<(OsErr, u32)> {
+    Some((OsErr::NoError, value))
+}
+
+// A one-shot timer of 2 counts, and a periodic timer of 3 and then 4 counts with a callback at 0.
 #[test]
-fn timers_run_and_fire(rt: HostRuntime) -> Result<(), Fail> {
-    let Ok((raw, _)) = read_image(rt.alloc(), IMAGE) else {
-        return Err(Fail::from("no image"));
-    };
-    let Ok(image) = check(raw) else {
-        return Err(Fail::from("refused"));
-    };
-    let (once, again) = (ObjId(0), ObjId(1));
-    let mut timers = Timers::new(&image);
+fn timers_run_and_fire(rt: HostRuntime) {
+    let mut once = Timer::declared(false, &[2, 0, 0xFFFF_FFFF, 0]);
+    let mut again = Timer::declared(true, &[3, 4, 0, 55]);
+    let mut timers = Timers::new();
+    assert_eq!(rt; (once.callback, again.callback), (None, Some(0)));
     assert_eq!(rt;
-        (timers.timer(once).callback, timers.timer(again).callback),
-        (None, Some(0))
-    );
-    assert_eq!(rt; timers.stop(once).err, OsErr::TimerStopped);
-    assert_eq!(rt;
-        (timers.remain(once).value, timers.state(once).value),
-        (2, 1)
+        call(&mut timers, 0, &mut once, Service::TmrStop),
+        Some((OsErr::TimerStopped, 0))
     );
     assert_eq!(rt;
-        (timers.start(again).err, timers.start(once).err),
-        (OsErr::NoError, OsErr::NoError)
+        call(&mut timers, 0, &mut once, Service::TmrRemainGet),
+        fine(2)
     );
     assert_eq!(rt;
-        (timers.state(once).value, timers.remain(again).value),
-        (2, 3)
+        call(&mut timers, 0, &mut once, Service::TmrStateGet),
+        fine(1)
     );
-    assert_eq!(rt; (timers.count_up(), timers.fire()), (1, None));
-    assert_eq!(rt; (timers.count_up(), timers.first_due()), (2, Some(once)));
-    assert_eq!(rt; (timers.fire(), timers.fire()), (Some(once), None));
     assert_eq!(rt;
-        (timers.state(once).value, timers.remain(once).value),
-        (3, 0)
+        call(&mut timers, 1, &mut again, Service::TmrStart),
+        fine(0)
     );
-    assert_eq!(rt; (timers.count_up(), timers.fire()), (3, Some(again)));
+    assert_eq!(rt; call(&mut timers, 0, &mut once, Service::TmrStart), fine(0));
+    assert_eq!(rt;
+        call(&mut timers, 0, &mut once, Service::TmrStateGet),
+        fine(2)
+    );
+    assert_eq!(rt;
+        call(&mut timers, 1, &mut again, Service::TmrRemainGet),
+        fine(3)
+    );
+    assert_eq!(rt; (timers.count_up(), timers.first_due()), (1, None));
+    assert_eq!(rt;
+        (timers.count_up(), timers.first_due()),
+        (2, Some(ObjId(0)))
+    );
+    timers.fire(ObjId(0), &mut once);
+    assert_eq!(rt; timers.first_due(), None);
+    assert_eq!(rt;
+        call(&mut timers, 0, &mut once, Service::TmrStateGet),
+        fine(3)
+    );
+    assert_eq!(rt;
+        call(&mut timers, 0, &mut once, Service::TmrRemainGet),
+        fine(0)
+    );
+    assert_eq!(rt;
+        (timers.count_up(), timers.first_due()),
+        (3, Some(ObjId(1)))
+    );
+    timers.fire(ObjId(1), &mut again);
     assert_eq!(rt; timers.slot(7), [Match { number: 1, at: 7 }].as_slice());
     assert_eq!(rt;
-        (timers.remain(again).value, timers.delete(again).err),
-        (4, OsErr::NoError)
+        call(&mut timers, 1, &mut again, Service::TmrRemainGet),
+        fine(4)
     );
-    assert_eq!(rt; timers.state(again).value, 1);
-    Ok(())
+    assert_eq!(rt; call(&mut timers, 1, &mut again, Service::TmrDel), fine(0));
+    assert_eq!(rt;
+        call(&mut timers, 1, &mut again, Service::TmrStateGet),
+        fine(1)
+    );
+    assert_eq!(rt; timers.slot(7), [].as_slice());
 }

@@ -1,107 +1,24 @@
-// The timer count, and the timers.
+// The timer count, and the timers that run.
 
-ghost use Rattle.std.specs.Prelude.{◌≡◌, ◌<◌, ◌+◌, ◌%◌, ◌^◌, ℕ, None, Some, [], slice_get, MatchOption};
-ghost use Rattle.app_image.specs.declared.records.ObjDef.{ObjDef as Declared};
-ghost use Rattle.kern_base.specs.declared.requests.Request.{Request};
-ghost use Rattle.kern_model.specs.State.{Kernel, Content, object_at};
-ghost use Rattle.kern_model.specs.Checks.{argument};
-ghost use Rattle.kern_model.specs.Effect.{done};
-ghost use Rattle.kern_model.specs.Timers.{tmr_start, tmr_stop, tmr_remain_get, tmr_state_get, tmr_del, due_timer, fired, runs, rests, has_callback, state_number, start_delay};
+ghost use Rattle.std.specs.Prelude.{◌≡◌, ◌<◌, ◌+◌, ◌%◌, ◌^◌, ◌++◌, ◌∷◌, None, Some, [], true, MatchOption};
+ghost use Rattle.kern_model.specs.Effect.{unmatched};
+ghost use Rattle.kern_model.specs.Timers.{due_timer};
+ghost use Rattle.tick_timers.specs.declared.timers.TimerState.TheVariants.{Running};
 ghost use Rattle.tick_timers.specs.Matches.{pairs, with_remainder};
-ghost use Rattle.tick_timers.specs.TimerRecord.{HasTimer, IsTimerRow, KeepsOthers, timer_in, declared_timer, with_timer, without_timer};
-ghost use Rattle.tick_timers.specs.TimerSeen.{timer_seen, state_seen};
+ghost use Rattle.tick_timers.specs.TimerCalls.{after_call, after_firing, is_timer_call, matches_after, matches_fired, matched_from, time_left, timer_decision};
+ghost use Rattle.tick_timers.specs.TimerSeen.{state_seen, timer_seen};
 
-use crate::Match;
 use crate::wheels::Wheel;
-use app_image::{Image, ObjDef};
-use decisions::{failure, success};
-use kern_base::{Answer, Kind, ObjId, OsErr};
+use crate::{Match, Timer, TimerState};
+use decisions::{refuse, success};
+use kern_base::{Decision, ObjId, OsErr, Service};
 use std::marker::Model;
 
-/// The state of a timer.
-#[derive(Clone, Copy, Debug, PartialEq, Eq)]
-pub enum TimerState {
-    Stopped,
-    Running,
-    Completed,
-}
-
-impl TimerState {
-    // Its number, as a program reads it.
-    fn number(self) -> u32
-        ensures { result ≡ state_number (state_seen self) }
-    {
-        match self {
-            TimerState::Stopped => 1,
-            TimerState::Running => 2,
-            TimerState::Completed => 3,
-        }
-    }
-}
-
-/// A timer: its state, its declared delay and period in timer counts, and the address of its callback,
-/// where it has one, with the callback's argument.
-#[derive(Clone, Copy, Debug, PartialEq, Eq)]
-pub struct Timer {
-    pub periodic: bool,
-    pub state: TimerState,
-    pub delay: u32,
-    pub period: u32,
-    pub callback: Option<u32>,
-    pub argument: u32,
-}
-
-// The number that stands for no callback.
-const NO_CALLBACK: u32 = 0xFFFF_FFFF;
-
-// What stands at a number without a timer.
-const NO_TIMER: Timer = Timer {
-    periodic: false,
-    state: TimerState::Stopped,
-    delay: 0,
-    period: 0,
-    callback: None,
-    argument: 0,
-};
-
-impl Timer {
-    // A timer as it was declared. It is stopped.
-    fn declared(def: &ObjDef) -> Timer
-        ensures { timer_seen result ≡ declared_timer def.now }
-    {
-        let callback = def.f[2];
-        Timer {
-            periodic: def.kind == Kind::Periodic,
-            state: TimerState::Stopped,
-            delay: def.f[0],
-            period: def.f[1],
-            callback: if callback == NO_CALLBACK {
-                None
-            } else {
-                Some(callback)
-            },
-            argument: def.f[3],
-        }
-    }
-
-    // What a start adds to the timer count.
-    fn start_delay(&self) -> u32
-        ensures { result ≡ start_delay (timer_seen self.now) }
-    {
-        if self.periodic && self.delay == 0 {
-            self.period
-        } else {
-            self.delay
-        }
-    }
-}
-
-/// The timer count, and the timers by the numbers of their objects. Contracts see the count, the timers,
-/// and the matches of the running ones in the order in which they were given.
+/// The timer count, and the matches of the timers that run: the count at which each fires. The timers themselves are held by their
+/// objects. Contracts see the count, and the matches in the order in which they were given.
 #[derive(Drop)]
 pub struct Timers {
     count: u32,
-    timers: [Timer; 64],
     wheel: Wheel,
 }
 
@@ -110,28 +27,16 @@ impl Model for Timers {
 
     ghost Value = { TimerRecord };
 
-    ghost use Rattle.tick_timers.specs.TimerView.{timers_of, AreTimers};
-
-    ghost view = { timers_of };
-
-    ghost invariant = { AreTimers };
+    ghost view = { λ a. record { count = a.count; matches = a.wheel } };
 }
 
 impl Timers {
-    /// The count at 0, and the timers of an application as they were declared: all are stopped.
-    pub fn new(image: &Image) -> Timers
-        ensures count { result.count ≡ 0 }
-        ensures matches { result.matches ≡ [] }
-        ensures timers { (o : ℕ) (d : Declared) → slice_get image.now.objects o ≡ Some d → timer_in result o ≡ declared_timer d }
+    /// The count at 0, and no timer runs.
+    pub fn new() -> Timers
+        ensures { result ≡ record { count = 0; matches = [] } }
     {
-        let mut timers = [NO_TIMER; 64];
-        let objects = image.objects();
-        for (index, def) in objects.iter().enumerate() {
-            timers[index] = Timer::declared(def);
-        }
         Timers {
             count: 0,
-            timers,
             wheel: Wheel::new(),
         }
     }
@@ -143,134 +48,103 @@ impl Timers {
         self.count
     }
 
-    /// The timer of an object.
-    pub fn timer(&self, obj: ObjId) -> &Timer
+    // How much is left until this timer fires, or of a stopped timer what a start would add.
+    fn time_left(&self, obj: ObjId, timer: &Timer) -> u32
         requires { obj.0 < 64 }
-        ensures { timer_seen result.now ≡ timer_in self.now obj.0 }
+        ensures { result ≡ time_left (state_seen timer.now.state) (timer_seen timer.now) obj.0 self.now }
     {
-        &self.timers[obj.0 as usize]
+        match timer.state {
+            TimerState::Stopped => timer.start_delay(),
+            TimerState::Running => self.wheel.count_at(obj.0).wrapping_sub(self.count),
+            TimerState::Completed => 0,
+        }
+    }
+
+    /// What a call on the timer of an object comes to: `OSTmrStart`, `OSTmrStop`, `OSTmrRemainGet`, `OSTmrStateGet` or `OSTmrDel`,
+    /// whose checks have passed. Nothing changes yet.
+    pub fn decide(&self, obj: ObjId, timer: &Timer, service: Service) -> Decision
+        requires number { obj.0 < 64 }
+        requires call { is_timer_call service ≡ true }
+        ensures { result ≡ timer_decision service (timer_seen timer.now) obj.0 self.now }
+    {
+        match service {
+            Service::TmrStart | Service::TmrDel => Decision::Done(success(0)),
+            Service::TmrStop if timer.state == TimerState::Running => Decision::Done(success(0)),
+            Service::TmrStop => refuse(OsErr::TimerStopped),
+            Service::TmrRemainGet => Decision::Done(success(self.time_left(obj, timer))),
+            Service::TmrStateGet => Decision::Done(success(timer.state.number())),
+            _ => unreachable!(),
+        }
+    }
+
+    /// The change of the timer of an object, and of its match, by a call on it that is not refused. That a timer is deleted is its
+    /// object's.
+    pub fn apply(&mut self, obj: ObjId, timer: &mut Timer, service: Service)
+        requires { obj.0 < 64 }
+        ensures timer { timer_seen timer.new ≡ after_call service (timer_seen timer.old) }
+        ensures matches { self.new ≡ record self.old { matches = matches_after service (timer_seen timer.old) obj.0 self.old } }
+    {
+        match service {
+            Service::TmrStart => {
+                let after = timer.start_delay();
+                self.run(obj, timer, after);
+            }
+            Service::TmrStop | Service::TmrDel => self.rest(obj, timer, TimerState::Stopped),
+            _ => {}
+        }
     }
 
     // A timer runs from now on, with the match after so many counts, as the last that got one.
-    fn run(&mut self, obj: ObjId, after: u32)
+    fn run(&mut self, obj: ObjId, timer: &mut Timer, after: u32)
         requires { obj.0 < 64 }
-        ensures others { KeepsOthers obj.0 self.old self.new }
-        ensures row { (k : Kernel) → HasTimer k self.old obj.0 → runs obj.0 (timer_in self.old obj.0) after k ≡ with_timer k obj.0 self.new }
+        ensures timer { timer.new ≡ record timer.old { state = Running } }
+        ensures matches { self.new ≡ record self.old { matches = matched_from obj.0 after self.old } }
     {
-        self.timers[obj.0 as usize].state = TimerState::Running;
+        timer.state = TimerState::Running;
         self.wheel.remove(obj.0);
         self.wheel.add(obj.0, self.count.wrapping_add(after));
     }
 
     // A timer has this state and no match.
-    fn rest(&mut self, obj: ObjId, state: TimerState)
+    fn rest(&mut self, obj: ObjId, timer: &mut Timer, state: TimerState)
         requires { obj.0 < 64 }
-        ensures others { KeepsOthers obj.0 self.old self.new }
-        ensures row { (k : Kernel) → HasTimer k self.old obj.0 → rests obj.0 (timer_in self.old obj.0) (state_seen state) k ≡ with_timer k obj.0 self.new }
+        ensures timer { timer.new ≡ record timer.old { state = state } }
+        ensures matches { self.new ≡ record self.old { matches = unmatched obj.0 self.old.matches } }
     {
-        self.timers[obj.0 as usize].state = state;
+        timer.state = state;
         self.wheel.remove(obj.0);
-    }
-
-    /// `OSTmrStart`: the timer runs, from now on where it ran before.
-    pub fn start(&mut self, obj: ObjId) -> Answer
-        requires { obj.0 < 64 }
-        ensures others { KeepsOthers obj.0 self.old self.new }
-        ensures row { IsTimerRow tmr_start obj.0 self.old self.new result }
-    {
-        let after = self.timer(obj).start_delay();
-        self.run(obj, after);
-        success(0)
-    }
-
-    /// `OSTmrStop`: a running timer stops; any other is told to be stopped, and stays as it is.
-    pub fn stop(&mut self, obj: ObjId) -> Answer
-        requires { obj.0 < 64 }
-        ensures others { KeepsOthers obj.0 self.old self.new }
-        ensures row { IsTimerRow tmr_stop obj.0 self.old self.new result }
-    {
-        if self.timer(obj).state == TimerState::Running {
-            self.rest(obj, TimerState::Stopped);
-            success(0)
-        } else {
-            failure(OsErr::TimerStopped)
-        }
-    }
-
-    /// `OSTmrRemainGet`: how many counts are left until the timer fires, or of a stopped timer what a
-    /// start would add. Nothing changes.
-    pub fn remain(&mut self, obj: ObjId) -> Answer
-        requires { obj.0 < 64 }
-        ensures same { self.new ≡ self.old }
-        ensures row { IsTimerRow tmr_remain_get obj.0 self.old self.new result }
-    {
-        let timer = self.timer(obj);
-        success(match timer.state {
-            TimerState::Stopped => timer.start_delay(),
-            TimerState::Running => self.wheel.count_at(obj.0).wrapping_sub(self.count),
-            TimerState::Completed => 0,
-        })
-    }
-
-    /// `OSTmrStateGet`: 1 stopped, 2 running, 3 completed. Nothing changes.
-    pub fn state(&mut self, obj: ObjId) -> Answer
-        requires { obj.0 < 64 }
-        ensures same { self.new ≡ self.old }
-        ensures row { IsTimerRow (λ content r k. tmr_state_get content k) obj.0 self.old self.new result }
-    {
-        success(self.timer(obj).state.number())
-    }
-
-    /// `OSTmrDel`: the timer stops. That it is deleted is its object's.
-    pub fn delete(&mut self, obj: ObjId) -> Answer
-        requires { obj.0 < 64 }
-        ensures others { KeepsOthers obj.0 self.old self.new }
-        ensures row { (k : Kernel) (r : Request) → argument r 0 ≡ obj.0 → HasTimer k self.old obj.0 →
-            tmr_del (object_at k obj.0).content r k ≡ done (without_timer k obj.0 self.new) result }
-    {
-        self.rest(obj, TimerState::Stopped);
-        success(0)
     }
 
     /// The timer count goes on by one, modulo 2^32.
     pub fn count_up(&mut self) -> u32
         ensures count { result ≡ (self.old.count + 1) % 2 ^ 32 }
-        ensures timers { self.new ≡ record { count = result; timers = self.old.timers; matches = self.old.matches } }
+        ensures timers { self.new ≡ record self.old { count = result } }
     {
         self.count = self.count.wrapping_add(1);
         self.count
     }
 
-    /// The timer that `fire` would take: the one that got its match first among those that are due now.
-    /// None exactly where none is due.
+    /// The timer that fires next: the one that got its match first among those that are due now. None exactly where none is due.
     pub fn first_due(&self) -> Option<ObjId>
         ensures { MatchOption result
             (due_timer self.now.count self.now.matches ≡ None)
             (λ obj. (obj.0 < 64) × (due_timer self.now.count self.now.matches ≡ Some obj.0)) }
     {
-        let number = self.wheel.nth_due(self.count, 0)?;
+        let number = self.wheel.first_due(self.count)?;
         Some(ObjId(number))
     }
 
-    /// The first timer that is due now fires: a one-shot timer is completed, a periodic one gets its next
-    /// match. None exactly where none is due, and then nothing changes.
-    pub fn fire(&mut self) -> Option<ObjId>
-        ensures due { MatchOption result
-            ((due_timer self.old.count self.old.matches ≡ None) × (self.new ≡ self.old))
-            (λ obj. (obj.0 < 64) × (due_timer self.old.count self.old.matches ≡ Some obj.0) × KeepsOthers obj.0 self.old self.new) }
-
-        // It is what the timer task's unit does, in every kernel with this timer.
-        ensures row { (obj : ℕ) (k : Kernel) → due_timer self.old.count self.old.matches ≡ Some obj → HasTimer k self.old obj →
-            fired obj (object_at k obj).content k ≡ record (with_timer k obj self.new) { in_callback = has_callback (timer_in self.old obj).callback } }
+    /// The timer of an object fires: a one-shot timer is completed, a periodic one gets its next match.
+    pub fn fire(&mut self, obj: ObjId, timer: &mut Timer)
+        requires { obj.0 < 64 }
+        ensures timer { timer_seen timer.new ≡ after_firing (timer_seen timer.old) }
+        ensures matches { self.new ≡ record self.old { matches = matches_fired (timer_seen timer.old) obj.0 self.old } }
     {
-        let obj = self.first_due()?;
-        let timer = *self.timer(obj);
         if timer.periodic {
-            self.run(obj, timer.period);
+            self.run(obj, timer, timer.period);
         } else {
-            self.rest(obj, TimerState::Completed);
+            self.rest(obj, timer, TimerState::Completed);
         }
-        Some(obj)
     }
 
     /// The matches of running timers whose count has this remainder modulo 64, as they are kept. The

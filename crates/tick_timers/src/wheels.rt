@@ -1,6 +1,6 @@
 // A wheel of matches.
 
-ghost use Rattle.std.specs.Prelude.{◌≡◌, ◌<◌, ◌%◌, ℕ, [], ◌∷◌, ◌++◌, drop, length, slice_get, slice_set, IfSome, MatchOption, Some};
+ghost use Rattle.std.specs.Prelude.{◌≡◌, ◌<◌, ◌%◌, ℕ, [], ◌∷◌, ◌++◌, length, slice_get, slice_set, IfSome};
 ghost use Rattle.kern_model.specs.Effect.{unmatched};
 ghost use Rattle.kern_model.specs.Time.{due};
 ghost use Rattle.kern_model.specs.Timers.{match_of};
@@ -110,36 +110,33 @@ impl Wheel {
         self.counts[number as usize].unwrap_or(0)
     }
 
-    // The k-th, from 0, of the numbers that are due at this count, in the order in which they got their match.
-    pub(crate) fn nth_due(&self, at: u32, k: u8) -> Option<u8>
-        ensures value { result ≡ slice_get (due at self.now) k }
+    // The first of the numbers that are due at this count, in the order in which they got their match.
+    pub(crate) fn first_due(&self, count: u32) -> Option<u8>
+        ensures value { result ≡ slice_get (due count self.now) 0 }
         ensures low { IfSome result (λ number. number < 64) }
     {
         let _ = &self.given;
-        let mut before = k;
-        let slot = self.slot((at % 64) as u8);
+        let slot = self.slot((count % 64) as u8);
         for entry in slot {
-            if entry.at == at {
-                if before == 0 {
-                    return Some(entry.number);
-                }
-                before -= 1;
+            if entry.at == count {
+                return Some(entry.number);
             }
         }
         None
     }
 
-    // Takes the first match that is due at this count.
-    pub(crate) fn take_due(&mut self, at: u32) -> Option<u8>
-        ensures taken { MatchOption result
-            ((due at self.old ≡ []) × (self.new ≡ self.old))
-            (λ number. (number < 64) × (slice_get (due at self.old) 0 ≡ Some number) × (self.new ≡ unmatched number self.old)) }
-        ensures left { due at self.new ≡ drop 1 (due at self.old) }
+    // All numbers that are due at this tick, in the order in which they got their match.
+    pub(crate) fn due(&self, tick: u32, numbers: &mut ArrayVec<u8, 64>)
+        requires { numbers.old.items ≡ [] }
+        ensures { numbers.new.items ≡ due tick self.now }
     {
         let _ = &self.given;
-        let number = self.nth_due(at, 0)?;
-        self.remove(number);
-        Some(number)
+        let slot = self.slot((tick % 64) as u8);
+        for entry in slot {
+            if entry.at == tick {
+                numbers.push(entry.number);
+            }
+        }
     }
 
     // The matches with this remainder, as they are kept.

@@ -8,6 +8,8 @@ mod interrupts;
 mod looks;
 mod objects;
 mod suspension;
+mod time;
+mod timers;
 
 use outside::{MemSink, MemSource};
 use std::alloc::{AllocError, Global};

@@ -121,7 +121,8 @@ const SEVEN_TO_2: &str = "0 0 start a
 const ANSWERS: &str = ".code
 go: os OSSemPend
 j go
-v: os OSTimeTick
+v: li a7, 99
+ecall
 li a1, 5
 os OSSemPend
 li a0, 7
@@ -146,7 +147,7 @@ const ANSWERS_TO_6: &str = "0 0 start a
 7 1 wait a OSSemPend
 7 1 sw a idle
 9 3 irq 3 2
-10 3 icall 3 OSTimeTick ERR_CALL_UNKNOWN
+10 3 icall 3 99 ERR_CALL_UNKNOWN
 13 3 icall 3 OSSemPend OS_ERR_PEND_ISR
 17 3 post 3 OSSemPost 7 0 OS_ERR_OBJ_TYPE 0
 21 3 post 3 OSSemPost 0 1 OS_ERR_OPT_INVALID 0

@@ -1,6 +1,5 @@
 use Rattle.std.proofs.Common.{rules, ◌≡◌, ◌+◌, ◌++◌, ◌∷◌, [], List, ap, sym, ◌∙◌, length, map, take}
 use Rattle.std.proofs.lemmas.List.{length-append, length-map, map-append, take_more}
-use Rattle.app_image.specs.declared.records.ObjDef.{ObjDef}
 use Rattle.kern_model.specs.State as state
 use Rattle.kern_model.specs.Start.{object_of}
 use Rattle.kernel_records.specs.declared.objects.Object.{Object}

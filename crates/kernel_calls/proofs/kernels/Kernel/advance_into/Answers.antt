@@ -1,9 +1,6 @@
 use Rattle.std.proofs.Common.{◌≡◌, ℕ, ◌<◌, ◌+◌, ◌∷◌, [], refl, sym, ap, ◌∙◌, subst, Some, None, true, arith}
 use Rattle.std.specs.Prelude.{All, Bool, Option}
-use Rattle.kern_base.specs.declared.requests.Request.{Request}
-use Rattle.kern_base.specs.declared.outcomes.Decision.{Decision}
-use Rattle.kern_base.specs.declared.outcomes.Around.{Around}
-use Rattle.arrayvec.specs.ArrayVec.{ArrayVec}
+use Rattle.kernel_calls.specs.declared.seen.Seen.{Seen}
 use Rattle.kern_model.specs.State.{Kernel}
 use Rattle.kern_model.specs.Micro.{Lists, lists_of}
 use Rattle.kern_model.specs.Services.{blocks, cost}
@@ -13,21 +10,17 @@ use Rattle.link_plans.specs.declared.plan.Plan.{Plan}
 use Rattle.micro_steps.specs.declared.link.Link.{Link}
 use Rattle.micro_steps.specs.declared.link.Link.TheVariants as link
 use Rattle.micro_steps.specs.Whole.{FitsLink, HasNode, IsMidway, IsPaused, StepsRecord, prios_after}
-use Rattle.kernel_records.specs.Deciding.{IsServedDecision, decision_of, waiters_of}
-use Rattle.kernel_records.specs.Concluding.{objects_waited, woken_of}
 use Rattle.kernel_records.specs.RecordsRecord.{RecordsRecord}
 use Rattle.kernel_records.specs.Served.{IsServed}
 use Rattle.kernel_calls.specs.Works.{WorkRecord, effect_of, stepped}
 use Rattle.kernel_calls.specs.Stepping.{AreNodes, IsHand, IsInHand, prios_over}
 use Rattle.kernel_calls.specs.KernelRecord.{KernelRecord}
 use Rattle.kernel_calls.specs.KernelView.{IsSound, state_with}
-use Rattle.kernel_calls.proofs.StepFacts.{below-cost, busy-of, few-steps, hand-back, hand-next, in-hand, left-below, IsSamePlan}
-use Rattle.kernel_calls.proofs.ServedFacts.{all-single}
-use Rattle.tick_timers.specs.Matches.{IsUnmatched}
-use Rattle.kernel_calls.proofs.BeginFacts.{caller-unmatched}
-use Rattle.kernel_calls.proofs.EndFacts.{same-records, same-outcome, sound-end, is-last, outcome-made, state-made}
+use Rattle.kernel_calls.proofs.StepFacts.{below-cost, busy-of, few-steps, hand-back, hand-next, in-hand, left-below, plan-inside, IsSamePlan}
+use Rattle.kernel_calls.specs.Ending.{Course, OfCall, OfTick, OfUnit, course_of, outcome_by, records_by}
+use Rattle.kernel_calls.proofs.MayEndFacts.{may-end, may-end-same}
+use Rattle.kernel_calls.proofs.EndFacts.{sound-end, is-last, outcome-made, state-made}
 use Rattle.kernel_calls.proofs.OwnFacts.{last-own, next-own}
-use Rattle.kernel_records.proofs.WaitFacts.{decision-lists}
 use Rattle.kernel_calls.proofs.kernels.Kernel.advance_into.Goals as goal
 
 pub count-requires : goal.count-requires
@@ -55,7 +48,7 @@ both-hands : (v w : WorkRecord) (o : Option WorkRecord) → o ≡ Some v → o �
 both-hands v w o e f = cc
 
 -- what is sound in the middle of a step stays so with another of its micro-steps made
-sound-next : (r : RecordsRecord) (s t : StepsRecord) (q p : Plan) (seen : Around) (w v : WorkRecord) (busy : Bool) → IsSound r s q seen w busy → t.start ≡ s.start → v ≡ stepped w → busy ≡ true
+sound-next : (r : RecordsRecord) (s t : StepsRecord) (q p : Plan) (seen : Seen) (w v : WorkRecord) (busy : Bool) → IsSound r s q seen w busy → t.start ≡ s.start → v ≡ stepped w → busy ≡ true
     → IsInHand (stepped w) p seen (state_with r.state s.start) t → IsSound r t p seen v busy
 sound-next r s t q p seen w v busy i start same b h =
     record {
@@ -92,13 +85,13 @@ pub next_link-requires-clause-objects : goal.next_link-requires-clause-objects
 next_link-requires-clause-objects g c =
     let b = busy-of c.self.inside.busy c.self.inside.work c.requires.busy.0 (rw (← c.self.view_is) at c.requires.busy.1) in
     let h = in-hand c.self.inside.busy c.self.inside.work c.self.inside.plan c.self.inside.seen (state_with c.self.inside.records.state c.self.inside.steps.start) c.self.inside.steps b.0 c.self.invariant.hand in
-    h.planned.objects_below
+    (plan-inside c.self.inside.work c.self.inside.plan c.self.inside.seen (state_with c.self.inside.records.state c.self.inside.steps.start) c.self.inside.steps h).objects
 
 pub next_link-requires-clause-woken : goal.next_link-requires-clause-woken
 next_link-requires-clause-woken g c =
     let b = busy-of c.self.inside.busy c.self.inside.work c.requires.busy.0 (rw (← c.self.view_is) at c.requires.busy.1) in
     let h = in-hand c.self.inside.busy c.self.inside.work c.self.inside.plan c.self.inside.seen (state_with c.self.inside.records.state c.self.inside.steps.start) c.self.inside.steps b.0 c.self.invariant.hand in
-    h.planned.woken_below
+    (plan-inside c.self.inside.work c.self.inside.plan c.self.inside.seen (state_with c.self.inside.records.state c.self.inside.steps.start) c.self.inside.steps h).woken
 
 pub take-requires-clause-even : goal.take-requires-clause-even
 take-requires-clause-even g c =
@@ -131,7 +124,7 @@ take-requires-clause-node g c =
     fits-node _ c.in-Some.link _ (subst (λ ks. IsPaused ms (lists_of k) (w.done + 1) ks h.end c.step.new.self) next paused).fits.0
 
 -- the next block is in hand
-in-next : (w : WorkRecord) (q p : Plan) (seen : Around) (k : Kernel) (s m t : StepsRecord) (j : Link) (h : IsInHand w q seen k s) → links_left k.tasks q ≡ j ∷ links_left k.tasks p
+in-next : (w : WorkRecord) (q p : Plan) (seen : Seen) (k : Kernel) (s m t : StepsRecord) (j : Link) (h : IsInHand w q seen k s) → links_left k.tasks q ≡ j ∷ links_left k.tasks p
     → IsPaused (blocks (effect_of w k) k) (lists_of k) (w.done + 1) (links_left k.tasks q) h.end m → m.prios ≡ s.prios → IsSamePlan q p → t.prios ≡ prios_after j m.prios
     → (IsPaused (blocks (effect_of w k) k) (lists_of k) (w.done + 1) (j ∷ links_left k.tasks p) h.end m → IsMidway (blocks (effect_of w k) k) (lists_of k) (w.done + 1) (links_left k.tasks p) h.end t) → IsInHand (stepped w) p seen k t
 in-next w q p seen k s m t j h next paused same plan prios taken =
@@ -171,23 +164,43 @@ returns-in-Some-clause-done g c =
     let open_yet = below-cost (effect_of w k) k (w.done + 1) (left-below ms (lists_of k) (w.done + 1) (links_left k.tasks p) h.end c.take.new.self taken) in
     λ v e d. absurd (not-both v w c.args.self.now.state k c.args.self.now.hand e (c.requires.busy.1 ∙ ap Some (sym b.1)) (ap (λ (a : KernelRecord). a.state) (sym c.self.view_is)) open_yet d)
 
-pub conclude-requires-clause-woken : goal.conclude-requires-clause-woken
-conclude-requires-clause-woken g c =
+pub next_link-requires-clause-caller : goal.next_link-requires-clause-caller
+next_link-requires-clause-caller g c =
     let b = busy-of c.self.inside.busy c.self.inside.work c.requires.busy.0 (rw (← c.self.view_is) at c.requires.busy.1) in
     let h = in-hand c.self.inside.busy c.self.inside.work c.self.inside.plan c.self.inside.seen (state_with c.self.inside.records.state c.self.inside.steps.start) c.self.inside.steps b.0 c.self.invariant.hand in
-    rw (c.as_slice.ensures.value, c.in-None.ensures.kept.4) h.planned.woken_below
+    (plan-inside c.self.inside.work c.self.inside.plan c.self.inside.seen (state_with c.self.inside.records.state c.self.inside.steps.start) c.self.inside.steps h).caller
 
-pub conclude-requires-clause-fresh : goal.conclude-requires-clause-fresh
-conclude-requires-clause-fresh g c = λ e.
+-- what was planned can be made
+pub conclude-requires : goal.conclude-requires
+conclude-requires g c =
     let b = busy-of c.self.inside.busy c.self.inside.work c.requires.busy.0 (rw (← c.self.view_is) at c.requires.busy.1) in
     let k = state_with c.self.inside.records.state c.self.inside.steps.start in
     let h = in-hand c.self.inside.busy c.self.inside.work c.self.inside.plan c.self.inside.seen k c.self.inside.steps b.0 c.self.invariant.hand in
-    subst (λ x. IsUnmatched x k.matches) (sym h.planned.who)
-    (caller-unmatched c.self.inside.work c.self.inside.plan c.self.inside.seen k c.self.inside.steps c.self.invariant.valid h (sym c.in-None.ensures.kept.0 ∙ e))
+    let kept = c.in-None.ensures.kept in
+    may-end-same c.self.inside.work c.count.new.self c.self.inside.plan c.next_link.new.self c.self.inside.seen c.self.inside.records.state c.count.ensures
+    (record { decision = kept.0; caller = kept.1; compared = kept.2; objects = kept.3; woken = kept.4; known = kept.5; bits = kept.6 })
+    (may-end (course_of c.self.inside.work) c.self.inside.work c.self.inside.plan c.self.inside.seen c.self.inside.records.state c.self.inside.steps.start refl c.self.invariant.valid c.self.invariant.served h.caller h.may h.planned)
 
 -- the kernel is busy
-sound-busy : (r : RecordsRecord) (s : StepsRecord) (q : Plan) (seen : Around) (w : WorkRecord) (busy : Bool) → busy ≡ true → IsSound r s q seen w busy → IsSound r s q seen w true
+sound-busy : (r : RecordsRecord) (s : StepsRecord) (q : Plan) (seen : Seen) (w : WorkRecord) (busy : Bool) → busy ≡ true → IsSound r s q seen w busy → IsSound r s q seen w true
 sound-busy r s q seen w busy b i = subst (λ c. IsSound r s q seen w c) b i
+
+-- the records are those of the course of the work
+ended-records : (w v : WorkRecord) (q p : Plan) (seen : Seen) (k : Kernel) → v ≡ stepped w → IsSamePlan q p → records_by (course_of v) v p seen k ≡ records_by (course_of w) w q seen k
+ended-records w v q p seen k e h = ap (λ u. records_by (course_of u) u p seen k) e ∙ same-plan (course_of w)
+  where
+    same-plan : (c : Course) → records_by c (stepped w) p seen k ≡ records_by c w q seen k
+    same-plan OfCall = rw (h.decision, h.woken) refl
+    same-plan OfTick = refl
+    same-plan OfUnit = rw h.woken refl
+
+ended-outcome : (w v : WorkRecord) (q p : Plan) (seen : Seen) (k : Kernel) → v ≡ stepped w → IsSamePlan q p → outcome_by (course_of v) v p seen k ≡ outcome_by (course_of w) w q seen k
+ended-outcome w v q p seen k e h = ap (λ u. outcome_by (course_of u) u p seen k) e ∙ same-plan (course_of w)
+  where
+    same-plan : (c : Course) → outcome_by c (stepped w) p seen k ≡ outcome_by c w q seen k
+    same-plan OfCall = rw (h.decision, h.woken) refl
+    same-plan OfTick = refl
+    same-plan OfUnit = refl
 
 pub invariant_of-self-in-None : goal.invariant_of-self-in-None
 invariant_of-self-in-None g c =
@@ -195,13 +208,14 @@ invariant_of-self-in-None g c =
     let k = state_with c.self.inside.records.state c.self.inside.steps.start in
     let w = c.self.inside.work in
     let q = c.self.inside.plan in
-    let i = sound-busy c.self.inside.records c.self.inside.steps q c.self.inside.seen w c.self.inside.busy b.0 c.self.invariant in
+    let seen = c.self.inside.seen in
+    let kept = c.in-None.ensures.kept in
+    let same : IsSamePlan q c.next_link.new.self = record { decision = kept.0; caller = kept.1; compared = kept.2; objects = kept.3; woken = kept.4; known = kept.5; bits = kept.6 } in
+    let i = sound-busy c.self.inside.records c.self.inside.steps q seen w c.self.inside.busy b.0 c.self.invariant in
     let none : links_left k.tasks q ≡ [] = last-own k.tasks c.tasks.result.now.tasks q c.tasks.ensures.tasks c.in-None.ensures.next in
     let paused = subst (λ ks. IsPaused (blocks (effect_of w k) k) (lists_of k) (w.done + 1) ks i.hand.end c.step.new.self) none (c.step.ensures.last (blocks (effect_of w k) k) (lists_of k) w.done (links_left k.tasks q) i.hand.end c.if-not-step.false i.hand.midway) in
-    let records = ap (λ (r : RecordsRecord). r.state) c.conclude.ensures.records
-    ∙ same-records c.next_link.new.self.decision q.decision c.request.result.now w.request c.self.inside.seen.caller.0 w.caller c.as_slice.result.now (woken_of q.decision (waiters_of w.request w.caller k)) c.self.inside.records.state
-    c.in-None.ensures.kept.0 (c.request.ensures ∙ ap (λ (v : WorkRecord). v.request) c.count.ensures) i.hand.planned.who (c.as_slice.ensures.value ∙ ap (λ (xs : ArrayVec ℕ). xs.items) c.in-None.ensures.kept.4 ∙ i.hand.planned.woken) in
-    sound-end w c.count.new.self q c.next_link.new.self c.self.inside.seen c.self.inside.records c.conclude.new.self c.self.inside.steps c.step.new.self c.close.new.self i none paused c.step.ensures.kept.1
+    let records = ap (λ (r : RecordsRecord). r.state) c.conclude.ensures.records ∙ ended-records w c.count.new.self q c.next_link.new.self seen c.self.inside.records.state c.count.ensures same in
+    sound-end w c.count.new.self q c.next_link.new.self seen c.self.inside.records c.conclude.new.records c.self.inside.steps c.step.new.self c.close.new.self i none paused c.step.ensures.kept.1
     c.close.ensures.kept.0 c.close.ensures.kept.1 c.close.ensures.start records
 
 pub returns-in-None-clause-valid : goal.returns-in-None-clause-valid
@@ -225,61 +239,20 @@ returns-in-None-clause-done g c =
     let k = state_with c.self.inside.records.state c.self.inside.steps.start in
     let w = c.self.inside.work in
     let q = c.self.inside.plan in
-    let d = c.next_link.new.self.decision in
-    let r = c.request.result.now in
-    let xs = c.as_slice.result.now in
-    let list = woken_of q.decision (waiters_of w.request w.caller k) in
-    let i = sound-busy c.self.inside.records c.self.inside.steps q c.self.inside.seen w c.self.inside.busy b.0 c.self.invariant in
+    let seen = c.self.inside.seen in
+    let kept = c.in-None.ensures.kept in
+    let as_planned : IsSamePlan q c.next_link.new.self = record { decision = kept.0; caller = kept.1; compared = kept.2; objects = kept.3; woken = kept.4; known = kept.5; bits = kept.6 } in
+    let i = sound-busy c.self.inside.records c.self.inside.steps q seen w c.self.inside.busy b.0 c.self.invariant in
     let none : links_left k.tasks q ≡ [] = last-own k.tasks c.tasks.result.now.tasks q c.tasks.ensures.tasks c.in-None.ensures.next in
     let paused = subst (λ ks. IsPaused (blocks (effect_of w k) k) (lists_of k) (w.done + 1) ks i.hand.end c.step.new.self) none (c.step.ensures.last (blocks (effect_of w k) k) (lists_of k) w.done (links_left k.tasks q) i.hand.end c.if-not-step.false i.hand.midway) in
-    let request = c.request.ensures ∙ ap (λ (v : WorkRecord). v.request) c.count.ensures in
-    let woken = c.as_slice.ensures.value ∙ ap (λ (xs : ArrayVec ℕ). xs.items) c.in-None.ensures.kept.4 ∙ i.hand.planned.woken in
-    let records = ap (λ (r : RecordsRecord). r.state) c.conclude.ensures.records
-    ∙ same-records d q.decision r w.request c.self.inside.seen.caller.0 w.caller xs list c.self.inside.records.state c.in-None.ensures.kept.0 request i.hand.planned.who woken in
-    let state : state_with c.conclude.new.self.state c.close.new.self.start ≡ (effect_of w k).kernel =
-    ap (λ l. state_with c.conclude.new.self.state l) c.close.ensures.start
-    ∙ state-made w q c.self.inside.seen c.self.inside.records.state c.self.inside.steps.start c.self.inside.steps c.step.new.self i.valid i.served i.hand none paused c.conclude.new.self.state records in
+    let records = ap (λ (r : RecordsRecord). r.state) c.conclude.ensures.records ∙ ended-records w c.count.new.self q c.next_link.new.self seen c.self.inside.records.state c.count.ensures as_planned in
+    let state : state_with c.conclude.new.records.state c.close.new.self.start ≡ (effect_of w k).kernel =
+    ap (λ l. state_with c.conclude.new.records.state l) c.close.ensures.start
+    ∙ state-made w q seen c.self.inside.records.state c.self.inside.steps.start c.self.inside.steps c.step.new.self i.valid i.served i.hand none paused c.conclude.new.records.state records in
     let outcome : c.conclude.new.outcome ≡ (effect_of w k).outcome =
-    c.conclude.ensures.outcome ∙ same-outcome d q.decision r w.request c.self.inside.seen.caller.0 w.caller xs list c.self.inside.records.state c.in-None.ensures.kept.0 request i.hand.planned.who woken
-    ∙ outcome-made w q c.self.inside.seen c.self.inside.records.state c.self.inside.steps.start c.self.inside.steps c.step.new.self i.valid i.served i.hand none paused in
+    c.conclude.ensures.outcome ∙ ended-outcome w c.count.new.self q c.next_link.new.self seen c.self.inside.records.state c.count.ensures as_planned
+    ∙ outcome-made w q seen c.self.inside.records.state c.self.inside.steps.start c.self.inside.steps c.step.new.self i.valid i.served i.hand none paused in
     let registers = ap (λ (r : RecordsRecord). r.registers) c.conclude.ensures.records in
     λ v e n.
     let same : v ≡ w = both-hands v w c.args.self.now.hand e (c.requires.busy.1 ∙ ap Some (sym b.1)) in
-    rw (same, ← c.self.view_is) (refl, outcome, ap (λ s. record { state = s; registers = c.conclude.new.self.registers; hand = None }) state ∙ ap (λ rs. record { state = (effect_of w k).kernel; registers = rs; hand = None }) registers)
-
-pub conclude-requires-clause-single : goal.conclude-requires-clause-single
-conclude-requires-clause-single g c = all-single (state_with c.self.inside.records.state c.self.inside.steps.start) c.self.invariant.valid c.self.invariant.served
-
--- what the records are told of is what was planned
-pub conclude-requires-clause-caller : goal.conclude-requires-clause-caller
-conclude-requires-clause-caller g c =
-    let b = busy-of c.self.inside.busy c.self.inside.work c.requires.busy.0 (rw (← c.self.view_is) at c.requires.busy.1) in
-    let h = in-hand c.self.inside.busy c.self.inside.work c.self.inside.plan c.self.inside.seen (state_with c.self.inside.records.state c.self.inside.steps.start) c.self.inside.steps b.0 c.self.invariant.hand in
-    subst (λ x. x < 64) (sym h.planned.who) h.caller
-
-pub conclude-requires-clause-decided : goal.conclude-requires-clause-decided
-conclude-requires-clause-decided g c =
-    let b = busy-of c.self.inside.busy c.self.inside.work c.requires.busy.0 (rw (← c.self.view_is) at c.requires.busy.1) in
-    let k = state_with c.self.inside.records.state c.self.inside.steps.start in
-    let h = in-hand c.self.inside.busy c.self.inside.work c.self.inside.plan c.self.inside.seen k c.self.inside.steps b.0 c.self.invariant.hand in
-    let request = c.request.ensures ∙ ap (λ (v : WorkRecord). v.request) c.count.ensures in
-    c.in-None.ensures.kept.0 ∙ h.planned.decision
-    ∙ sym (decision-lists c.self.inside.work.request c.self.inside.seen c.self.inside.records.state (lists_of k))
-    ∙ ap (λ (r : Request). decision_of r c.self.inside.seen c.self.inside.records.state) (sym request)
-
-pub conclude-requires-clause-served : goal.conclude-requires-clause-served
-conclude-requires-clause-served g c =
-    let b = busy-of c.self.inside.busy c.self.inside.work c.requires.busy.0 (rw (← c.self.view_is) at c.requires.busy.1) in
-    let h = in-hand c.self.inside.busy c.self.inside.work c.self.inside.plan c.self.inside.seen (state_with c.self.inside.records.state c.self.inside.steps.start) c.self.inside.steps b.0 c.self.invariant.hand in
-    let request = c.request.ensures ∙ ap (λ (v : WorkRecord). v.request) c.count.ensures in
-    subst (λ (d : Decision). IsServedDecision d c.request.result.now.service) (sym c.in-None.ensures.kept.0)
-    (subst (λ (r : Request). IsServedDecision c.self.inside.plan.decision r.service) (sym request) h.planned.served)
-
-pub conclude-requires-clause-objects : goal.conclude-requires-clause-objects
-conclude-requires-clause-objects g c =
-    let b = busy-of c.self.inside.busy c.self.inside.work c.requires.busy.0 (rw (← c.self.view_is) at c.requires.busy.1) in
-    let h = in-hand c.self.inside.busy c.self.inside.work c.self.inside.plan c.self.inside.seen (state_with c.self.inside.records.state c.self.inside.steps.start) c.self.inside.steps b.0 c.self.invariant.hand in
-    let request = c.request.ensures ∙ ap (λ (v : WorkRecord). v.request) c.count.ensures in
-    subst (λ (d : Decision). All (λ o. o < 64) (objects_waited d c.request.result.now)) (sym c.in-None.ensures.kept.0)
-    (subst (λ (r : Request). All (λ o. o < 64) (objects_waited c.self.inside.plan.decision r)) (sym request)
-    (subst (All (λ o. o < 64)) h.planned.objects h.planned.objects_below))
+    rw (same, ← c.self.view_is) (refl, outcome, ap (λ s. record { state = s; registers = c.conclude.new.records.registers; hand = None }) state ∙ ap (λ rs. record { state = (effect_of w k).kernel; registers = rs; hand = None }) registers)

@@ -23,11 +23,12 @@ use Rattle.kernel_calls.specs.Works.{WorkRecord, begun, effect_of}
 use Rattle.kernel_calls.specs.Stepping.{AreNodes, IsInHand, IsPlanned, planned_bits}
 use Rattle.kernel_calls.specs.Moving.{known_links}
 use Rattle.kernel_calls.specs.KernelView.{state_with}
-use Rattle.kernel_calls.proofs.BeginFacts.{begun-hand, some-steps}
-use Rattle.kernel_calls.proofs.PlanningFacts.{all-waiters, bits-lists, objects-below, woken-below}
+use Rattle.kernel_calls.proofs.BeginFacts.{as-call, at-start, begun-hand, call-body, some-steps}
+use Rattle.kernel_calls.specs.declared.seen.Seen.{Seen}
+use Rattle.kernel_calls.proofs.PlanningFacts.{all-waiters, bits-lists, known-lists, objects-below, woken-below}
 use Rattle.kernel_calls.proofs.StepFacts.{at-rest, free-of}
 use Rattle.kernel_records.proofs.WaitFacts.{decision-lists}
-use Rattle.kernel_calls.proofs.WaiterFacts.{AllWait-waiters}
+use Rattle.kernel_calls.proofs.WaiterFacts.{AllWait-woken}
 use Rattle.kernel_calls.proofs.kernels.Kernel.begin.Goals as goal
 
 pub returns-clause-open_yet : goal.returns-clause-open_yet
@@ -55,8 +56,8 @@ plan_move-requires-clause-inside g c =
     let seen = c.around-self-inside.result in
     let value : c.decide-decision.result ≡ decision_of r seen k = c.decide-decision.ensures.value ∙ decision-lists r seen rs (lists_of k) in
     let who : seen.caller.0 ≡ c.args.caller.0 = ap (λ (t : TaskId). t.0) c.around-self-inside.ensures.caller in
-    λ moves. subst (λ n. named_task r c.args.caller.0 < n) c.self.invariant.valid.sizes.tasks
-    (subst (λ z. named_task r z < length k.tasks) who (moved-inside r seen c.decide-decision.result k value moves))
+    λ other moves. subst (λ n. named_task r c.args.caller.0 < n) c.self.invariant.valid.sizes.tasks
+    (subst (λ z. named_task r z < length k.tasks) who (moved-inside r seen c.decide-decision.result k other value moves))
 
 pub invariant_of-self : goal.invariant_of-self
 invariant_of-self g c =
@@ -104,19 +105,21 @@ invariant_of-self g c =
       woken = woken;
       bits = c.planned_bits-bits.ensures x ∙ bits-lists d r x rs (lists_of k) ∙ ap (λ e. planned_bits e r x k) (sym decision);
       objects = objects;
-      known = c.plan_move.ensures ∙ ap (λ e. known_links e r x h k) (sym decision);
-      woken_below = subst (All (λ y. y < 64)) (sym woken) (woken-below q.decision k ws (AllWait-waiters r x k c.self.invariant.valid));
+      known = c.plan_move.ensures ∙ known-lists d r x h rs (lists_of k) ∙ ap (λ e. known_links e r x h k) (sym decision);
+      woken_below = subst (All (λ y. y < 64)) (sym woken) (woken-below q.decision k ws (AllWait-woken q.decision r x k served c.self.invariant.valid));
       objects_below = subst (All (λ y. y < 64)) (sym objects) (objects-below q.decision r seen k value served c.self.invariant.valid.sizes.objects);
     } in
     let fresh = c.plan_call.ensures.fresh in
-    let hand : IsInHand w q seen k c.take.new.self =
-    begun-hand w q seen rs c.self.inside.steps c.take.new.self c.self.invariant.valid c.self.invariant.nodes rest c.requires.task refl may plan fresh.1 fresh.2 fresh.3 c.take.ensures.midway c.take.ensures.prios in
+    let whole : Seen = record { around = seen; turn = c.self.inside.seen.turn } in
+    let body = call-body w q seen k start c.self.inside.steps.prios c.self.invariant.valid (at-start rs c.self.inside.steps c.self.invariant.nodes) rest.prios may plan c.plan_call.ensures.last in
+    let hand : IsInHand w q whole k c.take.new.self =
+    begun-hand w q whole rs c.self.inside.steps c.take.new.self c.self.invariant.valid c.self.invariant.nodes rest c.requires.task refl may (as-call w q whole k refl (sym c.is_tick.ensures ∙ c.if-is_tick.false) plan) fresh.1 fresh.2 fresh.3 body c.take.ensures.midway c.take.ensures.prios in
     let begins = c.begin.ensures in
     record {
       valid = subst (λ l. IsLinked (state_with rs l)) (sym c.take.ensures.kept.1) c.self.invariant.valid;
       served = subst (λ l. IsServed (state_with rs l)) (sym c.take.ensures.kept.1) c.self.invariant.served;
       nodes = subst (λ l. AreNodes (state_with rs l) l) (sym c.take.ensures.kept.1) c.self.invariant.nodes;
       hand =
-          subst (λ (v : WorkRecord). IsInHand v q seen (state_with rs c.take.new.self.start) c.take.new.self) (sym begins)
-          (subst (λ l. IsInHand w q seen (state_with rs l) c.take.new.self) (sym c.take.ensures.kept.1) hand);
+          subst (λ (v : WorkRecord). IsInHand v q whole (state_with rs c.take.new.self.start) c.take.new.self) (sym begins)
+          (subst (λ l. IsInHand w q whole (state_with rs l) c.take.new.self) (sym c.take.ensures.kept.1) hand);
     }

@@ -1,4 +1,6 @@
 use Rattle.std.proofs.Common.{◌≡◌, ◌∙◌, ap, sym, length, true, false}
+use Rattle.std.proofs.lemmas.Bool.{true≢false}
+use Rattle.kern_base.specs.declared.services.Service.TheVariants.{RoundRobinYield}
 use Rattle.kern_model.specs.State.{list_at}
 use Rattle.kern_model.specs.Micro.{Halves, lists_of}
 use Rattle.kern_model.specs.Checks.{argument}
@@ -10,14 +12,20 @@ use Rattle.kernel_records.proofs.RowFacts.{waiters-object, waiters-scheduler, wa
 use Rattle.kernel_calls.specs.KernelView.{state_with}
 use Rattle.kernel_calls.proofs.PlanningFacts.{all-waiters}
 use Rattle.kernel_calls.proofs.StepFacts.{at-rest, free-of}
+use Rattle.kernel_calls.proofs.kernels.Kernel.first_waiter.Goals.{in-RoundRobinYield, in_default}
 use Rattle.kernel_calls.proofs.kernels.Kernel.first_waiter.Goals as goal
 
 pub returns-then-is_scheduler_call : goal.returns-then-is_scheduler_call
 returns-then-is_scheduler_call g c =
     let k = state_with c.self.inside.records.state c.self.inside.steps.start in
+    let other : c.args.request.now.service ≡ RoundRobinYield → ⊥ =
+    elim c.match-matches.branch [
+      | in-RoundRobinYield w ↦ absurd (true≢false (sym w.matches-is ∙ c.if-matches.false))
+      | in_default w ↦ w.in_default.not-RoundRobinYield
+    ] in
     rw (← c.self.view_is)
     (c.delayed_task.ensures
-    ∙ ap first_waiter (scheduler-waiters c.args.request.now.service c.args.request.now c.args.caller.0 c.self.inside.records.state (lists_of k) ∙ sym (waiters-scheduler c.args.request.now c.args.caller.0 k (sym c.is_scheduler_call.ensures ∙ c.if-is_scheduler_call.true))))
+    ∙ ap first_waiter (scheduler-waiters c.args.request.now.service c.args.request.now c.args.caller.0 c.self.inside.records.state (lists_of k) other ∙ sym (waiters-scheduler c.args.request.now c.args.caller.0 k (sym c.is_scheduler_call.ensures ∙ c.if-is_scheduler_call.true))))
 
 pub returns-then-is_task_call : goal.returns-then-is_task_call
 returns-then-is_task_call g c =

@@ -1,6 +1,6 @@
-use Rattle.std.proofs.Common.{ap, sym, ◌∙◌, ◌≡◌, ◌<◌, ◌≤◌, length, false, refl, subst}
+use Rattle.std.proofs.Common.{sym, ◌∙◌, ◌≡◌, ◌<◌, ◌≤◌, length, subst}
 use Rattle.std.specs.Prelude.{slice_index, slice_index_or}
-use Rattle.kern_model.specs.State.{Object, object_in, no_object}
+use Rattle.kern_model.specs.State.{object_in, no_object}
 use Rattle.kern_model.proofs.Lemmas.{less, not_less}
 use Rattle.message_store.specs.Store.{no_queue}
 use Rattle.kernel_records.specs.ObjectView.{object_seen, objects_in}

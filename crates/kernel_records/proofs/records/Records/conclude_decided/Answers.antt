@@ -1,6 +1,6 @@
 use Rattle.std.proofs.Common.{◌≡◌, ◌<◌, ap, sym, ◌∙◌, length, true, subst}
 use Rattle.kern_base.specs.declared.outcomes.Decision.{Decision}
-use Rattle.kern_base.specs.declared.outcomes.Decision.TheVariants.{Block, Wake}
+use Rattle.kern_base.specs.declared.outcomes.Decision.TheVariants.{Wake}
 use Rattle.kern_model.specs.State.{Kernel, object_at}
 use Rattle.kern_model.specs.Checks.{argument}
 use Rattle.kern_model.specs.Waiters.{messages_in}

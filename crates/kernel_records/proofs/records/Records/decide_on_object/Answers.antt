@@ -1,11 +1,11 @@
-use Rattle.std.proofs.Common.{◌≡◌, ◌<◌, ap, sym, ◌∙◌, length, subst, arith}
+use Rattle.std.proofs.Common.{ap, sym, ◌∙◌, subst, arith}
 use Rattle.std.proofs.lemmas.Grind.{common_steps}
 use Rattle.kern_base.specs.declared.outcomes.Decision.{Decision}
 use Rattle.kern_model.specs.State.{Content}
 use Rattle.kern_model.specs.Services.{content_for}
 use Rattle.kernel_records.specs.RecordsView.{state_of}
 use Rattle.kernel_records.specs.Deciding.{IsCallOn, IsServedDecision, decision_by}
-use Rattle.kernel_records.proofs.DecidingFacts.{no-scheduler, passed-call, passed-inside, served-object}
+use Rattle.kernel_records.proofs.DecidingFacts.{no-scheduler, no-timer-call, passed-call, passed-inside, served-object}
 use Rattle.kernel_records.proofs.ObjectCalls.{content-is, inside, queue-inside}
 use Rattle.kernel_records.proofs.RowFacts.{object-served, row-by}
 use Rattle.kernel_records.proofs.records.Records.decide_on_object.Goals as goal
@@ -55,7 +55,7 @@ returns-clause-row c =
     let there = rw (← c.self.view_is) at told in
     let passed = rw (← c.self.view_is) at c.requires.passed in
     rw (← c.self.view_is)
-    (row-by r c.args.seen.now c.decide_by.result (state_of a) (served-object r.service c.requires.served) passed _ (no-scheduler r.service c.requires.served) c.requires.object
+    (row-by r c.args.seen.now c.decide_by.result (state_of a) (served-object r.service c.requires.served) passed _ (no-scheduler r.service c.requires.served) (no-timer-call r.service c.requires.served) c.requires.object
     (content-is a r c.self.invariant there c.index-object.result.now _ c.index-object.ensures) c.decide_by.ensures.value c.decide_by.ensures.row)
 
 pub returns-clause-served : goal.returns-clause-served

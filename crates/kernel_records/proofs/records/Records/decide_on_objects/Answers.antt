@@ -2,7 +2,6 @@ use Rattle.std.proofs.Common.{◌≡◌, ◌<◌, ap, sym, ◌∙◌, subst, tru
 use Rattle.message_store.specs.Store.{own_at}
 use Rattle.task_objects.specs.Rows as own
 use Rattle.task_objects.specs.Rows.{Holds, IsTaskDecided, is_task_call, target}
-use Rattle.kern_model.specs.State.{task_at}
 use Rattle.kernel_records.specs.RecordsView.{state_of}
 use Rattle.kernel_records.proofs.DecidingFacts.{by-task}
 use Rattle.kernel_records.proofs.RowFacts.{row-task}

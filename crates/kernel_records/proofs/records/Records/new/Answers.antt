@@ -3,7 +3,7 @@ use Rattle.std.proofs.lemmas.List.{length-map}
 use Rattle.kern_model.specs.State.{Object, Task, kind_of}
 use Rattle.kern_model.specs.Start.{object_of, start_tasks}
 use Rattle.message_store.specs.Start.{own_of, start_store}
-use Rattle.message_store.specs.Store.{OwnObjects, Store}
+use Rattle.message_store.specs.Store.{Store}
 use Rattle.tcb_pool.specs.TaskView.{without_own}
 use Rattle.kernel_records.specs.ObjectView.{declared_queue, objects_in, tasks_in}
 use Rattle.kernel_records.proofs.ObjectFacts.{with-without}
@@ -47,4 +47,4 @@ returns c =
     let tasks : tasks_in s.own c.new.result.tasks ≡ start_tasks i =
     ap (λ (m : Store). tasks_in m.own c.new.result.tasks) store ∙ ap (tasks_in (map own_of (start_tasks i))) c.new.ensures.tasks ∙ with-without (start_tasks i) in
     let free = ap (λ (m : Store). m.free) store in
-    rw (objects, tasks, free, c.new.ensures.registers, c.new-2.ensures, c.tasks-2.ensures.value, c.config-config.ensures.value) refl
+    rw (objects, tasks, free, c.new.ensures.registers, c.new-2.ensures, c.new-3.ensures, c.tasks-2.ensures.value, c.config-config.ensures.value) refl

@@ -1,6 +1,5 @@
-use Rattle.std.proofs.Common.{◌≡◌, ◌<◌, ◌≤◌, ap, sym, ◌∙◌, length, subst, refl, Bool, [], ◌∷◌, arith}
+use Rattle.std.proofs.Common.{◌<◌, ◌≤◌, ap, sym, ◌∙◌, length, subst, refl, Bool, [], ◌∷◌, arith}
 use Rattle.std.specs.Prelude.{if◌then◌else◌}
-use Rattle.kern_base.specs.declared.outcomes.Waiting.TheVariants.{No}
 use Rattle.kern_model.specs.State.{Task}
 use Rattle.decisions.specs.Around.{first_waiter}
 use Rattle.task_objects.specs.Rows.{target, waits_for_it}

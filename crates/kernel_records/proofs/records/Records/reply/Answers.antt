@@ -1,4 +1,4 @@
-use Rattle.std.proofs.Common.{◌≡◌, ◌<◌, ap, sym, ◌∙◌, length, refl, subst}
+use Rattle.std.proofs.Common.{◌<◌, ap, sym, ◌∙◌, length, refl, subst}
 use Rattle.kern_model.specs.State.{Task}
 use Rattle.decisions.specs.Decided.{ended_delay}
 use Rattle.kernel_records.specs.RecordsView.{state_of}

@@ -1,4 +1,4 @@
-use Rattle.std.proofs.Common.{◌≡◌, ◌<◌, List, ap, sym, ◌∙◌, length, subst, refl}
+use Rattle.std.proofs.Common.{◌<◌, List, ap, sym, length, subst, refl}
 use Rattle.kern_model.specs.State.{Task}
 use Rattle.kernel_records.specs.RecordsRecord.{RecordsRecord}
 use Rattle.kernel_records.specs.RecordsView.{state_of}

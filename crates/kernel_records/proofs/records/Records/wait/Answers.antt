@@ -1,4 +1,4 @@
-use Rattle.std.proofs.Common.{◌≡◌, ◌<◌, ◌++◌, List, ap, sym, ◌∙◌, length, subst, refl}
+use Rattle.std.proofs.Common.{◌<◌, ◌++◌, List, ap, sym, length, subst, refl}
 use Rattle.kern_model.specs.State.{Task}
 use Rattle.kern_model.specs.Effect.{new_match, waiting_task}
 use Rattle.decisions.specs.Decided.{wait_of}

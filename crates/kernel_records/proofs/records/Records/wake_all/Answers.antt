@@ -1,6 +1,5 @@
 use Rattle.std.proofs.Common.{rules, ◌≡◌, ◌+◌, ◌∷◌, ◌<◌, length, ap, sym, ◌∙◌, drop, get_or, add-one, subst}
 use Rattle.std.proofs.Math.Seq.{drop-cons}
-use Rattle.kern_model.specs.State.{Kernel}
 use Rattle.kernel_records.specs.Concluding.{AreSingle, awakened, awakened_all, handing}
 use Rattle.kernel_records.specs.RecordsRecord.{RecordsRecord}
 use Rattle.kernel_records.proofs.ConcludingFacts.{given-handing, single-given}

@@ -22,4 +22,5 @@ loop-self-preserved c =
       objects = c.loop-self.invariant.objects;
       known = c.loop-self.invariant.known;
       ended = c.loop-self.invariant.ended;
+      last = c.loop-self.invariant.last;
     }

@@ -14,6 +14,7 @@ invariant-loop-self l =
       objects : l.self.objects ≡ l.initial.self.objects;
       known : l.self.known ≡ l.initial.self.known;
       ended : l.self.ended ≡ l.initial.self.ended;
+      last : l.self.last ≡ l.initial.self.last;
     }
 
 abbrev pub decreases-loop-self : goal.decreases-loop-self

@@ -20,7 +20,7 @@ drop_front-requires g c =
     let q : Queued = record { service = c.args.service; args = c.args.args; saved = c.args.saved.0 } in
     let goes : GoesOn a.method (machine_of a) = rw (← c.self.view_is) at c.requires.rule in
     let l = last-of-take q a.kernel c.perform-last.new.kernel c.perform-last.result.0 c.perform-last.new.outcome c.requires.takes.0 (rw (← c.self.view_is) at c.requires.takes.1) c.perform-last.ensures.open_yet c.perform-last.ensures.more c.perform-last.ensures.done c.if-last.true in
-    waits-take a l.hand c.self.invariant goes l.held l.last l.takes
+    waits-take a l.hand c.self.invariant goes l.held l.last l.no_unit l.takes
 
 pub settle-self-inside-requires : goal.settle-self-inside-requires
 settle-self-inside-requires g c =
@@ -36,7 +36,7 @@ invariant_of-self g c =
     let goes : GoesOn a.method (machine_of a) = rw (← c.self.view_is) at c.requires.rule in
     let open_yet : a.t < 1000000 = rw (← c.self.view_is) at c.requires.open_yet in
     let l = last-of-take q a.kernel c.perform-last.new.kernel c.perform-last.result.0 c.perform-last.new.outcome c.requires.takes.0 (rw (← c.self.view_is) at c.requires.takes.1) c.perform-last.ensures.open_yet c.perform-last.ensures.more c.perform-last.ensures.done c.if-last.true in
-    take-kept a l.hand c.self.invariant goes l.held l.last l.takes c.perform-last.new.kernel c.drop_front.new.self c.settle-self-inside.result l.ends c.drop_front.ensures c.settle-self-inside.ensures open_yet
+    take-kept a l.hand c.self.invariant goes l.held l.last l.no_unit l.takes c.perform-last.new.kernel c.drop_front.new.self c.settle-self-inside.result l.ends c.drop_front.ensures c.settle-self-inside.ensures open_yet
 
 pub returns-then-last-clause-machine : goal.returns-then-last-clause-machine
 returns-then-last-clause-machine g c =
@@ -44,7 +44,7 @@ returns-then-last-clause-machine g c =
     let q : Queued = record { service = c.args.service; args = c.args.args; saved = c.args.saved.0 } in
     let goes : GoesOn a.method (machine_of a) = rw (← c.self.view_is) at c.requires.rule in
     let l = last-of-take q a.kernel c.perform-last.new.kernel c.perform-last.result.0 c.perform-last.new.outcome c.requires.takes.0 (rw (← c.self.view_is) at c.requires.takes.1) c.perform-last.ensures.open_yet c.perform-last.ensures.more c.perform-last.ensures.done c.if-last.true in
-    rw (← c.self.view_is) (take-machine a l.hand c.self.invariant goes l.held l.last l.takes c.perform-last.new.kernel c.drop_front.new.self c.settle-self-inside.result l.ends c.drop_front.ensures c.settle-self-inside.ensures)
+    rw (← c.self.view_is) (take-machine a l.hand c.self.invariant goes l.held l.last l.no_unit l.takes c.perform-last.new.kernel c.drop_front.new.self c.settle-self-inside.result l.ends c.drop_front.ensures c.settle-self-inside.ensures)
 
 pub returns-then-last-clause-line : goal.returns-then-last-clause-line
 returns-then-last-clause-line g c =
@@ -57,7 +57,7 @@ returns-then-last-clause-line g c =
     let told = c.take_line.ensures
     ∙ ap (λ (r : Queued). let o = answer_in c.perform-last.new.outcome in Take r.service (arguments r.service r.args) (argument_count r.service) o.err o.value c.perform-last.result.1) (sym l.queued)
     ∙ ap (λ u. let o = answer_in u in Take l.hand.request.service (arguments l.hand.request.service l.hand.request.args) (argument_count l.hand.request.service) o.err o.value c.perform-last.result.1) l.outcome in
-    rw (← c.self.view_is) (take-told a l.hand c.self.invariant goes l.held l.last l.takes c.take_line.new.line c.perform-last.result.1 told same)
+    rw (← c.self.view_is) (take-told a l.hand c.self.invariant goes l.held l.last l.no_unit l.takes c.take_line.new.line c.perform-last.result.1 told same)
 
 -- one after which others are left
 pub invariant_of-self-else-last : goal.invariant_of-self-else-last
